@@ -1,0 +1,81 @@
+-- Laws of a text's bytes: what stands from a place on, how many pass a test, and the first one. Assumes nothing.
+use mathlib.Core.Path.{_≡_, refl, sym, ap, _∙_}
+use mathlib.Core.Bool.{Bool, true, false, cond}
+use mathlib.Core.List.{List, [], _∷_, _++_}
+use Prim.Native.Nat.{ℕ, suc, _+_, _-_, _≤_, _<_, zero-le, suc-le-suc}
+use native.Mathlib.Nat.{le-of-eq, not-suc-le-zero, le-of-suc-le-suc}
+use native.Mathlib.Numerals.{add-one}
+use native.Mathlib.Omega.{arith}
+use lib.ListN.{length, getD, take, drop, length-drop, drop-of-length-le}
+use lib.Seq.{take-all, drop-cons}
+use Rattle.numeral.specs.Digits.{countWhile}
+use Rattle.numeral.specs.Spelling.{afterFirst}
+
+-- ---- from a place on
+
+pub next : (t : List ℕ) (i : ℕ) → i < length t → drop i t ≡ getD t i 0 ∷ drop (i + 1) t
+next t i h = drop-cons t i 0 h ∙ ap (λ (n : ℕ). getD t i 0 ∷ drop n t) (sym (add-one i))
+
+-- the part from a place to the end is the rest
+pub rest : (n : ℕ) (s : List ℕ) → take (length s - n) (drop n s) ≡ drop n s
+rest n s = take-all (length s - n) (drop n s) (le-of-eq (length-drop n s))
+
+module _ (p : ℕ → Bool) where
+  -- ---- how many pass the test
+
+  pub count-le : (s : List ℕ) → countWhile p s ≤ length s
+  count-le [] = zero-le
+  count-le (b ∷ s) = go (p b) (count-le s)
+    where
+      go : (z : Bool) → countWhile p s ≤ length s → cond z (suc (countWhile p s)) 0 ≤ suc (length s)
+      go true k = suc-le-suc k
+      go false k = zero-le
+
+  counted : (t : List ℕ) (i : ℕ) (z : Bool) → i < length t → p (getD t i 0) ≡ z → countWhile p (drop i t) ≡ cond z (suc (countWhile p (drop (i + 1) t))) 0
+  counted t i z h e = ap (countWhile p) (next t i h) ∙ ap (λ (x : Bool). cond x (suc (countWhile p (drop (i + 1) t))) 0) e
+
+  pub count-ends : (t : List ℕ) (i : ℕ) → i < length t → p (getD t i 0) ≡ false → countWhile p (drop i t) ≡ 0
+  count-ends t i h e = counted t i false h e
+
+  pub count-goes-on : (t : List ℕ) (i : ℕ) → i < length t → p (getD t i 0) ≡ true → countWhile p (drop i t) ≡ suc (countWhile p (drop (i + 1) t))
+  count-goes-on t i h e = counted t i true h e
+
+  pub count-done : (t : List ℕ) (i : ℕ) → length t ≤ i → countWhile p (drop i t) ≡ 0
+  count-done t i h = ap (countWhile p) (drop-of-length-le t h)
+
+  -- a byte of the first list that fails the test ends the count of both
+  pub count-before : (w f : List ℕ) → countWhile p w < length w → countWhile p (w ++ f) ≡ countWhile p w
+  count-before [] f h = absurd (not-suc-le-zero h)
+  count-before (b ∷ w) f h = go (p b) h (count-before w f)
+    where
+      go : (z : Bool) → cond z (suc (countWhile p w)) 0 < suc (length w) → (countWhile p w < length w → countWhile p (w ++ f) ≡ countWhile p w)
+          → cond z (suc (countWhile p (w ++ f))) 0 ≡ cond z (suc (countWhile p w)) 0
+      go true k ih = ap suc (ih (le-of-suc-le-suc k))
+      go false k ih = refl
+
+  -- where all of the first list pass, the count goes on in the second
+  pub count-through : (w f : List ℕ) → length w ≤ countWhile p w → countWhile p (w ++ f) ≡ length w + countWhile p f
+  count-through [] f h = omega arith
+  count-through (b ∷ w) f h = go (p b) h (count-through w f)
+    where
+      more : (x l z : ℕ) → x ≡ l + z → suc x ≡ suc l + z
+      more x l z e = omega arith
+
+      go : (z : Bool) → suc (length w) ≤ cond z (suc (countWhile p w)) 0 → (length w ≤ countWhile p w → countWhile p (w ++ f) ≡ length w + countWhile p f)
+          → cond z (suc (countWhile p (w ++ f))) 0 ≡ suc (length w) + countWhile p f
+      go true k ih = more (countWhile p (w ++ f)) (length w) (countWhile p f) (ih (le-of-suc-le-suc k))
+      go false k ih = absurd (not-suc-le-zero k)
+
+  -- ---- the first byte
+
+  pub first-taken : (s : List ℕ) → 0 < length s → p (getD s 0 0) ≡ true → drop 1 s ≡ afterFirst p s
+  first-taken [] h e = absurd (not-suc-le-zero h)
+  first-taken (b ∷ s) h e = rw e
+
+  pub first-left : (s : List ℕ) → p (getD s 0 0) ≡ false → s ≡ afterFirst p s
+  first-left [] e = refl
+  first-left (b ∷ s) e = rw e
+
+  pub no-first : (s : List ℕ) → length s ≤ 0 → s ≡ afterFirst p s
+  no-first [] h = refl
+  no-first (b ∷ s) h = absurd (not-suc-le-zero h)

@@ -1,0 +1,17 @@
+//! Cases of numbers in text and of whole seconds: document 01's answer, worked out here by hand,
+//! beside Rust's own. Nothing here needs the Rust's files.
+pub mod case;
+pub mod case_file;
+pub mod decimal_texts;
+pub mod dice;
+pub mod end_times;
+pub mod figures;
+pub mod random;
+pub mod reading;
+pub mod rounding;
+pub mod sample;
+pub mod second;
+pub mod spellings;
+pub mod spoil;
+pub mod ties;
+pub mod whole_texts;
