@@ -4,7 +4,7 @@ use crate::dice::Dice;
 use crate::spellings::{damaged, edge, noise};
 use crate::ties::near_a_tie;
 
-/// The digits with a point before the last `decimals` of them, zeros filled in where they are fewer.
+/// The digits with a point before the last `decimals` of them, zeros filled in before few ones.
 pub fn spelled(digits: &str, decimals: usize) -> String {
     if decimals == 0 {
         return digits.to_string();

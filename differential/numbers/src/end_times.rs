@@ -1,4 +1,5 @@
-//! End times, as bits: special values, neighbours of whole numbers and of powers of two, any pattern.
+//! End times, as bits: special values, neighbours of whole numbers and of powers of two, and any
+//! pattern.
 use crate::dice::Dice;
 
 const SIGN: u64 = 1 << 63;

@@ -1,10 +1,10 @@
 //! Decimals nearest to ties: to the middle between two doubles that follow each other.
 //!
-//! `n / 10^k` lies between doubles that are the whole multiples of some `2^-shift`. It is a tie where
-//! `n * 2^shift / 10^k` is a whole number and a half, so where `n * 2^(shift + 1 - k)` is an odd
-//! multiple of `5^k`. A tie has 54 bits and 15 digits make 50, so that there is none; but `n` may
-//! miss by 1, the least there is, since one side is even and the other odd. Missing by `miss` means
-//! `n * 2^(shift + 1 - k) = 5^k + miss` modulo `2 * 5^k`, which gives `n` modulo `5^k`.
+//! `n / 10^k` lies between doubles that are the whole multiples of some `2^-shift`. It is a tie
+//! where `n * 2^shift / 10^k` is a whole number and a half, so where `n * 2^(shift + 1 - k)` is an
+//! odd multiple of `5^k`. A tie has 54 bits and 15 digits make 50, so that there is none; but `n`
+//! may miss by 1, the least there is, since one side is even and the other odd. Missing by `miss`
+//! means `n * 2^(shift + 1 - k) = 5^k + miss` modulo `2 * 5^k`, which gives `n` modulo `5^k`.
 use crate::dice::Dice;
 use crate::reading::MOST_DECIMALS;
 
@@ -90,7 +90,8 @@ pub fn near_a_tie(dice: &mut Dice) -> (u64, usize) {
 mod tests {
     use super::*;
 
-    /// How far the rest of `n * 2^shift / 10^k` is from half the divisor, doubled: the miss times 2^k.
+    /// How far the rest of `n * 2^shift / 10^k` is from half the divisor, doubled: the miss times
+    /// 2^k.
     fn misses_by(number: u64, decimals: usize) -> u128 {
         let power = 10u128.pow(decimals as u32);
         let mut scaled = u128::from(number);
@@ -105,7 +106,7 @@ mod tests {
         for (number, decimals) in nearest_to_ties(&mut Dice::new(3)) {
             let least = 1 << decimals;
             let miss = misses_by(number, decimals);
-            assert!(u128::from(number) < NUMBERS_END && miss % least == 0);
+            assert!(u128::from(number) < NUMBERS_END && miss.is_multiple_of(least));
             assert!(miss == least || decimals > 20, "{number} {decimals} {miss}");
             assert!(miss < 32 * least, "{number} {decimals} {miss}");
         }

@@ -3,8 +3,8 @@ use crate::case::LONGEST_TEXT;
 use crate::dice::Dice;
 use crate::spellings::{damaged, edge, noise};
 
-/// The limit and its neighbours, numbers with a digit more or less, and numbers that are small again
-/// once they are taken modulo 2^32 or 2^64.
+/// The limit and its neighbours, numbers with a digit more or less, and numbers that are small
+/// again once they are taken modulo 2^32 or 2^64.
 const NUMBERS: &[&str] = &[
     "0",
     "1",
@@ -55,7 +55,7 @@ pub fn limits() -> Vec<Vec<u8>> {
     texts.into_iter().map(String::into_bytes).collect()
 }
 
-/// A number of up to 35 bits, so that one in eight is past the limit, with or without plus and zeros.
+/// A number of at most 35 bits, so that some are past the limit, with or without plus and zeros.
 pub fn random_number(dice: &mut Dice) -> Vec<u8> {
     let number = dice.bits() >> dice.between(29, 63);
     let zeros = match dice.below(8) {

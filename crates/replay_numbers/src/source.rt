@@ -1,0 +1,58 @@
+// A file that is read through a room smaller than it.
+use libc::STDOUT_FILENO;
+ghost use Prim.Native.Nat.{_≤_};
+ghost use lib.ListN.{length};
+ghost use Rattle.io.specs.Counts.{Counts};
+
+// Brings what stands between two places to the room's start, and reads behind it until the room is full or the file ends.
+// Answers where what was read ends. Places that are none keep nothing.
+pub fn refill(fd: i32, room: &mut [u8], from: usize, end: usize) -> usize
+    ensures { λ r. ⌜ Counts r (now (room .exit)) ⌝ }
+{
+    let kept = to_front(room, from, end);
+    kept + io::read_full(fd, &mut room[kept..])
+}
+
+fn to_front(room: &mut [u8], from: usize, end: usize) -> usize
+    ensures { λ r. ⌜ r ≤ length (now (room .exit)) ⌝ }
+{
+    if room.len() < end {
+        return 0;
+    }
+    if end < from {
+        return 0;
+    }
+    let mut k = from;
+    while k < end {
+        room[k - from] = room[k];
+        k += 1;
+    }
+    k - from
+}
+
+// Prints the first line on a line of its own, and answers where the next one starts.
+pub fn print_line(bytes: &[u8]) -> usize
+    ensures { λ r. ⌜ r ≤ length (now (bytes .entry)) ⌝ }
+{
+    let end = line_end(bytes);
+    io::write_all(STDOUT_FILENO, b"\n");
+    io::write_all(STDOUT_FILENO, &bytes[..end]);
+    io::write_all(STDOUT_FILENO, b"\n");
+    if end < bytes.len() {
+        return end + 1;
+    }
+    end
+}
+
+fn line_end(bytes: &[u8]) -> usize
+    ensures { λ r. ⌜ Counts r (now (bytes .entry)) ⌝ }
+{
+    let mut at = 0usize;
+    while at < bytes.len() {
+        if bytes[at] == b'\n' {
+            return at;
+        }
+        at += 1;
+    }
+    at
+}
