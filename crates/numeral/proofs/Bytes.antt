@@ -66,6 +66,16 @@ module _ (p : ℕ → Bool) where
       go true k ih = more (countWhile p (w ++ f)) (length w) (countWhile p f) (ih (le-of-suc-le-suc k))
       go false k ih = absurd (not-suc-le-zero k)
 
+  -- the byte that ends the count fails the test
+  pub count-stops : (s : List ℕ) → countWhile p s < length s → p (getD s (countWhile p s) 0) ≡ false
+  count-stops [] h = absurd (not-suc-le-zero h)
+  count-stops (b ∷ s) h = go (p b) refl h (count-stops s)
+    where
+      go : (z : Bool) → p b ≡ z → cond z (suc (countWhile p s)) 0 < suc (length s) → (countWhile p s < length s → p (getD s (countWhile p s) 0) ≡ false)
+          → p (getD (b ∷ s) (cond z (suc (countWhile p s)) 0) 0) ≡ false
+      go true e k ih = ih (le-of-suc-le-suc k)
+      go false e k ih = e
+
   -- ---- the first byte
 
   pub first-taken : (s : List ℕ) → 0 < length s → p (getD s 0 0) ≡ true → drop 1 s ≡ afterFirst p s
@@ -79,3 +89,19 @@ module _ (p : ℕ → Bool) where
   pub no-first : (s : List ℕ) → length s ≤ 0 → s ≡ afterFirst p s
   no-first [] h = refl
   no-first (b ∷ s) h = absurd (not-suc-le-zero h)
+
+-- where all that pass q pass p too, p's count is q's and then p's own from there on
+pub count-past : (p q : ℕ → Bool) → ((b : ℕ) → q b ≡ true → p b ≡ true) → (s : List ℕ) → countWhile p s ≡ countWhile q s + countWhile p (drop (countWhile q s) s)
+count-past p q more [] = refl
+count-past p q more (b ∷ s) = go (q b) refl (count-past p q more s)
+  where
+    both : (x c d : ℕ) → x ≡ c + d → suc x ≡ suc c + d
+    both x c d e = omega arith
+
+    none : (x : ℕ) → x ≡ 0 + x
+    none x = omega arith
+
+    go : (z : Bool) → q b ≡ z → countWhile p s ≡ countWhile q s + countWhile p (drop (countWhile q s) s)
+        → countWhile p (b ∷ s) ≡ cond z (suc (countWhile q s)) 0 + countWhile p (drop (cond z (suc (countWhile q s)) 0) (b ∷ s))
+    go true e ih = rw (more b e) (both (countWhile p s) (countWhile q s) (countWhile p (drop (countWhile q s) s)) ih)
+    go false e ih = none (countWhile p (b ∷ s))

@@ -10,10 +10,9 @@ use lib.ListN.{length, take, drop}
 use lib.Ieee.{Float, binary64, round, le}
 use lib.Ieee.Fits.{and-r}
 use lib.Ieee.Scale.{finite}
-use Rattle.numeral.specs.declared.answer.Decimal.{Decimal}
 use Rattle.numeral.specs.declared.answer.Decimal.the-variants.{Value, Malformed, TooLong}
 use Rattle.numeral.specs.Digits.{allDigits, number, point}
-use Rattle.numeral.specs.Spelling.{ofParts, isTooLong, decimalOf, afterSign, isNegative}
+use Rattle.numeral.specs.Spelling.{ofParts, unsignedOf, isTooLong, decimalOf, afterSign, isNegative}
 use Rattle.numeral.proofs.Digits.{few-below}
 use Rattle.numeral.proofs.Outcomes.{few-significant}
 use Rattle.numeral.proofs.Rounding.{most, size-most, quotient-finite}
@@ -41,7 +40,7 @@ parts-read negative w f x e = go (ltb 0 (length (w ++ f)) && allDigits (w ++ f))
     go false b p q k = absurd (let z : _≡_ {A = ℕ} 0 1 = cc in never z)
 
 pub decimal-read : (s : List ℕ) (x : Float) → decimalOf s ≡ Value x → Read x
-unfolding decimalOf
+unfolding decimalOf unsignedOf
 decimal-read s x e = let t = afterSign s in parts-read (isNegative s) (take (point t) t) (drop (suc (point t)) t) x e
 
 pub decimal-finite : (s : List ℕ) (x : Float) → decimalOf s ≡ Value x → T (finite x)

@@ -1,20 +1,23 @@
 -- What a text says, by the tests that the code makes: each law is one way out. Assumes nothing.
 use mathlib.Core.Path.{_≡_, refl, sym, ap, _∙_, subst}
-use mathlib.Core.Bool.{Bool, true, false, _&&_, _||_}
-use mathlib.Core.List.{List, _++_}
-use Prim.Native.Nat.{ℕ, _+_, _-_, _^_, _≤_, _<_, min}
+use mathlib.Core.Bool.{Bool, true, false, not, _&&_, _||_}
+use mathlib.Core.List.{List, [], _++_, append-nil}
+use Prim.Native.Nat.{ℕ, suc, _+_, _-_, _^_, _≤_, _<_, min}
+use native.Mathlib.Nat.{le-of-lt, min-eq-left}
+use native.Mathlib.Numerals.{add-one}
 use native.Mathlib.Omega.{arith}
-use borrow.Author.Tests.{lt-ltb, le-ltb, ltb-false}
+use borrow.Author.Tests.{lt-ltb, le-ltb, ltb-false, eq-eqb, ne-eqb}
 use lib.Dec.{T, ltb}
-use lib.ListN.{length, length-append}
+use lib.ListN.{length, getD, take, drop, length-append, drop-of-length-le}
+use lib.Seq.{take-all}
 use lib.Ieee.{binary64, round}
 use Rattle.numeral.specs.declared.answer.Whole.the-variants.{Value as WholeValue, Malformed as NoWhole}
 use Rattle.numeral.specs.declared.answer.Decimal.the-variants.{Value, Malformed, TooLong}
-use Rattle.numeral.specs.declared.answer.Digits.the-variants.{Number, Other}
-use Rattle.numeral.specs.Digits.{allDigits, number, digitsUpTo, leadingZeros, significant, isZero}
-use Rattle.numeral.specs.Spelling.{ofDigits, ofParts, isTooLong}
-use Rattle.numeral.proofs.Bytes.{count-before, count-through}
-use Rattle.numeral.proofs.Digits.{and-false, all-append, joined, few-below, other-digits, all-digits}
+use Rattle.numeral.specs.declared.answer.Digits.{Digits}
+use Rattle.numeral.specs.Digits.{isDigit, allDigits, number, countWhile, leadingDigits, leadingZeros, significant, point, isZero, isNoPoint}
+use Rattle.numeral.specs.Spelling.{ofDigits, Spelled, ofParts, unsignedOf, isTooLong}
+use Rattle.numeral.proofs.Bytes.{count-before, count-through, count-past, count-ends, count-goes-on, count-stops}
+use Rattle.numeral.proofs.Digits.{and-false, all-append, number-append, few-below, all-leading, all-read, other-by-count, other-among, capped-before, count-is, number-is as number-from, number-of-all}
 
 above-zero : (n : ℕ) → (n ≡ 0 → ⊥) → 0 < n
 above-zero n h = omega arith
@@ -22,34 +25,33 @@ above-zero n h = omega arith
 no-more : (n : ℕ) → n ≡ 0 → n ≤ 0
 no-more n e = omega arith
 
--- ---- a whole number
+-- ---- a whole number: d are its leading digits
 
 pub whole-empty : (s : List ℕ) → length s ≡ 0 → NoWhole ≡ ofDigits s
 unfolding ofDigits
 whole-empty s e = rw (le-ltb 0 (length s) (no-more (length s) e))
 
-pub whole-other : (s : List ℕ) → digitsUpTo 0 (2 ^ 32) s ≡ Other → NoWhole ≡ ofDigits s
-unfolding ofDigits
-whole-other s e = rw (other-digits 0 (2 ^ 32) s e, and-false (ltb 0 (length s)))
-
-uncapped : (n v : ℕ) → min n (2 ^ 32) ≡ v → v < 2 ^ 32 → n ≡ v
+uncapped : (n v : ℕ) → v ≡ min n (2 ^ 32) → v < 2 ^ 32 → n ≡ v
 uncapped n v e h = omega arith
 
-pub whole-value : (s : List ℕ) (v : ℕ) → (length s ≡ 0 → ⊥) → digitsUpTo 0 (2 ^ 32) s ≡ Number v → v < 2 ^ 32 → WholeValue v ≡ ofDigits s
-unfolding ofDigits
-whole-value s v n e h =
-    let d = all-digits 0 (2 ^ 32) s v e in
-    let same : number 0 s ≡ v = uncapped (number 0 s) v (d .1) h in
-    rw (lt-ltb 0 (length s) (above-zero (length s) n), d .0, same, lt-ltb v (2 ^ 32) h)
-
-over : (n v : ℕ) → min n (2 ^ 32) ≡ v → 2 ^ 32 ≤ v → 2 ^ 32 ≤ n
+over : (n v : ℕ) → v ≡ min n (2 ^ 32) → 2 ^ 32 ≤ v → 2 ^ 32 ≤ n
 over n v e h = omega arith
 
-pub whole-large : (s : List ℕ) (v : ℕ) → digitsUpTo 0 (2 ^ 32) s ≡ Number v → 2 ^ 32 ≤ v → NoWhole ≡ ofDigits s
-unfolding ofDigits
-whole-large s v e h =
-    let d = all-digits 0 (2 ^ 32) s v e in
-    rw (le-ltb (number 0 s) (2 ^ 32) (over (number 0 s) v (d .1) h), and-false (ltb 0 (length s) && allDigits s))
+module _ (s : List ℕ) (d : Digits) (read : d ≡ leadingDigits 0 (2 ^ 32) s) where
+  pub whole-other : d .count < length s → NoWhole ≡ ofDigits s
+  unfolding ofDigits
+  whole-other h = rw (other-by-count s (subst (λ (k : ℕ). k < length s) (count-is 0 (2 ^ 32) s d read) h), and-false (ltb 0 (length s)))
+
+  pub whole-value : (length s ≡ 0 → ⊥) → length s ≤ d .count → d .number < 2 ^ 32 → WholeValue (d .number) ≡ ofDigits s
+  unfolding ofDigits
+  whole-value n all h =
+      let same : number 0 s ≡ d .number = uncapped (number 0 s) (d .number) (number-of-all 0 (2 ^ 32) s d read all) h in
+      rw (lt-ltb 0 (length s) (above-zero (length s) n), all-read 0 (2 ^ 32) s d read all, same, lt-ltb (d .number) (2 ^ 32) h)
+
+  pub whole-large : length s ≤ d .count → 2 ^ 32 ≤ d .number → NoWhole ≡ ofDigits s
+  unfolding ofDigits
+  whole-large all h =
+      rw (le-ltb (number 0 s) (2 ^ 32) (over (number 0 s) (d .number) (number-of-all 0 (2 ^ 32) s d read all) h), and-false (ltb 0 (length s) && allDigits s))
 
 -- ---- how many digits
 
@@ -119,7 +121,7 @@ module _ (w f : List ℕ) where
       by-count (length f - j)
       (from-fraction (length (w ++ f)) (length w) (length f) (leadingZeros f) (leadingZeros (w ++ f)) j (length-append w f) i (count-through isZero w f h')) d
 
--- ---- a decimal
+-- ---- a decimal: the digits w before the point and f after it
 
 module _ (negative : Bool) (w f : List ℕ) where
   pub no-digit : length w + length f ≡ 0 → Malformed ≡ ofParts negative w f
@@ -130,16 +132,16 @@ module _ (negative : Bool) (w f : List ℕ) where
   unfolding ofParts
   other e = rw (all-append w f, e, and-false (ltb 0 (length (w ++ f))))
 
-  pub other-before : digitsUpTo 0 (10 ^ 15) w ≡ Other → Malformed ≡ ofParts negative w f
-  other-before e = other (rw (other-digits 0 (10 ^ 15) w e))
+  pub other-before : allDigits w ≡ false → Malformed ≡ ofParts negative w f
+  other-before e = other (rw e)
 
-  pub other-after : (n : ℕ) → digitsUpTo n (10 ^ 15) f ≡ Other → Malformed ≡ ofParts negative w f
-  other-after n e = other (rw (other-digits n (10 ^ 15) f e) (and-false (allDigits w)))
+  pub other-after : allDigits f ≡ false → Malformed ≡ ofParts negative w f
+  other-after e = other (rw e (and-false (allDigits w)))
 
-  -- from here on the text is well formed: v is the number before the point, brought down to the limit, and d that of both
-  module _ (some : length w + length f ≡ 0 → ⊥) (v d : ℕ) (before : digitsUpTo 0 (10 ^ 15) w ≡ Number v) (both : digitsUpTo v (10 ^ 15) f ≡ Number d) where
+  -- from here on the text is well formed, and d is the number of its digits, brought down to the limit
+  module _ (some : length w + length f ≡ 0 → ⊥) (d : ℕ) (read : Spelled w f d) where
     all : allDigits (w ++ f) ≡ true
-    all = all-append w f ∙ rw (all-digits 0 (10 ^ 15) w v before .0, all-digits v (10 ^ 15) f d both .0)
+    all = all-append w f ∙ rw (read .before, read .behind)
 
     well-formed : (ltb 0 (length (w ++ f)) && allDigits (w ++ f)) ≡ true
     well-formed = rw (all, length-append w f, lt-ltb 0 (length w + length f) (above-zero (length w + length f) some))
@@ -148,13 +150,75 @@ module _ (negative : Bool) (w f : List ℕ) where
     unfolding ofParts
     too-long-is h = rw (well-formed, h)
 
-    -- the digits are all those written
     number-is : isTooLong w f ≡ false → d ≡ number 0 (w ++ f)
-    number-is h =
-        sym (all-digits v (10 ^ 15) f d both .1)
-        ∙ ap (λ (x : ℕ). min (number x f) (10 ^ 15)) (sym (all-digits 0 (10 ^ 15) w v before .1))
-        ∙ joined w f (10 ^ 15) (few-below (w ++ f) (subst T (sym all) tt) (few-significant w f h))
+    number-is h = read .digits ∙ min-eq-left (le-of-lt (few-below (w ++ f) (subst T (sym all) tt) (few-significant w f h)))
 
     pub value-is : isTooLong w f ≡ false → Value (round binary64 negative d (10 ^ length f)) ≡ ofParts negative w f
     unfolding ofParts
     value-is h = rw (well-formed, h, number-is h)
+
+-- ---- where the point is: a are the digits that stand before it
+
+digit-no-point : (b : ℕ) → isDigit b ≡ true → isNoPoint b ≡ true
+digit-no-point b e = ap not (ne-eqb b 46 (λ z. let f : true ≡ false = sym e ∙ ap isDigit z in absurd (subst T f tt)))
+
+module _ (negative : Bool) (t : List ℕ) (a : Digits) (read : a ≡ leadingDigits 0 (10 ^ 15) t) where
+  count : a .count ≡ countWhile isDigit t
+  count = count-is 0 (10 ^ 15) t a read
+
+  past : point t ≡ a .count + point (drop (a .count) t)
+  past = subst (λ (k : ℕ). point t ≡ k + point (drop k t)) (sym count) (count-past isNoPoint isDigit digit-no-point t)
+
+  -- only digits: there is none
+  pub alone : (f : List ℕ) → length t ≤ a .count → f ≡ drop (a .count) t → Spelled t f (a .number)
+  alone f h e =
+      let e' : f ≡ [] = e ∙ drop-of-length-le t h in
+      rw e' (record { before = all-read 0 (10 ^ 15) t a read h; behind = refl; digits = rw append-nil (number-of-all 0 (10 ^ 15) t a read h) })
+
+  pub no-point : (f : List ℕ) → length t ≤ a .count → f ≡ drop (a .count) t → ofParts negative t f ≡ unsignedOf negative t
+  unfolding unsignedOf
+  no-point f h e =
+      let far : length t ≤ point t = omega (arith, past) in
+      let further : length t ≤ suc (point t) = omega arith in
+      ap (λ (l : List ℕ). ofParts negative t l) (e ∙ drop-of-length-le t h ∙ sym (drop-of-length-le t further)) ∙ ap (λ (l : List ℕ). ofParts negative l (drop (suc (point t)) t)) (sym (take-all (point t) t far))
+
+  -- another byte than the point ends the digits
+  pub other-than-point : a .count < length t → (getD t (a .count) 0 ≡ 46 → ⊥) → Malformed ≡ unsignedOf negative t
+  unfolding unsignedOf
+  other-than-point h n =
+      let k = a .count in
+      let later : point (drop k t) ≡ suc (point (drop (k + 1) t)) = count-goes-on isNoPoint t k h (ap not (ne-eqb (getD t k 0) 46 n)) in
+      let further : k < point t = omega (arith, past) in
+      let stops : isDigit (getD t k 0) ≡ false = subst (λ (i : ℕ). isDigit (getD t i 0) ≡ false) (sym count) (count-stops isDigit t (subst (λ (i : ℕ). i < length t) count h)) in
+      other-before negative (take (point t) t) (drop (suc (point t)) t) (other-among (point t) k t further h stops)
+
+  -- the point ends them: f follows it
+  module _ (f : List ℕ) (here : a .count < length t) (dot : getD t (a .count) 0 ≡ 46) (rest : f ≡ drop (a .count + 1) t) where
+    at-point : point t ≡ a .count
+    at-point = let z : point (drop (a .count) t) ≡ 0 = count-ends isNoPoint t (a .count) here (ap not (eq-eqb (getD t (a .count) 0) 46 dot)) in omega (arith, past)
+
+    pub parted : ofParts negative (take (a .count) t) f ≡ unsignedOf negative t
+    unfolding unsignedOf
+    parted =
+        ap (λ (l : List ℕ). ofParts negative (take (a .count) t) l) (rest ∙ ap (λ (i : ℕ). drop i t) (add-one (a .count)))
+        ∙ ap (λ (i : ℕ). ofParts negative (take i t) (drop (suc i) t)) (sym at-point)
+
+    module _ (b : Digits) (more : b ≡ leadingDigits (a .number) (10 ^ 15) f) where
+      pub other-behind : b .count < length f → Malformed ≡ unsignedOf negative t
+      other-behind h =
+          other-after negative (take (a .count) t) f (other-by-count f (subst (λ (k : ℕ). k < length f) (count-is (a .number) (10 ^ 15) f b more) h)) ∙ parted
+
+      pub both-parts : length f ≤ b .count → Spelled (take (a .count) t) f (b .number)
+      both-parts h =
+          record {
+            before = rw count (all-leading t);
+            behind = all-read (a .number) (10 ^ 15) f b more h;
+            digits =
+                number-of-all (a .number) (10 ^ 15) f b more h
+                ∙ ap (λ (n : ℕ). min (number n f) (10 ^ 15)) (first-number ∙ ap (λ (l : List ℕ). min (number 0 l) (10 ^ 15)) (ap (λ (k : ℕ). take k t) (sym count)))
+                ∙ capped-before (number 0 (take (a .count) t)) (10 ^ 15) f
+                ∙ ap (λ (n : ℕ). min n (10 ^ 15)) (sym (number-append 0 (take (a .count) t) f));
+          }
+        where
+          first-number : a .number ≡ min (number 0 (take (countWhile isDigit t) t)) (10 ^ 15)
+          first-number = number-from 0 (10 ^ 15) t a read

@@ -1,6 +1,6 @@
 -- The quotient of two floats that hold whole numbers exactly is the rounded quotient of the numbers; and a negative quotient is the positive one negated. Assumes nothing.
 use mathlib.Core.Path.{_≡_, refl, sym, ap, _∙_, subst}
-use mathlib.Core.Bool.{Bool, true, false, not, cond}
+use mathlib.Core.Bool.{Bool, true, false, cond}
 use Prim.Native.Nat.{ℕ, zero, suc, _+_, _-_, _*_, _/_, _^_, _≤_, _<_, zero-le}
 use native.Mathlib.Nat.{mul-one, mul-pos, mul-comm, mul-assoc, mul-left-comm, zero-mul, lt-of-lt-of-le, lt-irrefl, zero-lt-suc, pow-le-pow-right}
 use native.Mathlib.Omega.{arith}

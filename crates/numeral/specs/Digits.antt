@@ -3,9 +3,8 @@ use Prim.Native.Nat.{ℕ, suc, _+_, _-_, _*_, min}
 use mathlib.Core.Bool.{Bool, true, not, _&&_, cond}
 use mathlib.Core.List.{List, [], _∷_}
 use lib.Dec.{leb, eqb}
-use lib.ListN.{length}
+use lib.ListN.{length, take}
 use Rattle.numeral.specs.declared.answer.Digits.{Digits}
-use Rattle.numeral.specs.declared.answer.Digits.the-variants.{Number, Other}
 
 -- whether a byte is an ASCII digit
 abbrev pub isDigit : ℕ → Bool
@@ -19,10 +18,6 @@ allDigits (b ∷ s) = isDigit b && allDigits s
 abbrev pub number : ℕ → List ℕ → ℕ
 number n [] = n
 number n (b ∷ s) = number (n * 10 + (b - 48)) s
-
--- what bytes that should all be digits say: their number after n, brought down to the limit
-unfoldable pub digitsUpTo : ℕ → ℕ → List ℕ → Digits
-digitsUpTo n limit s = cond (allDigits s) (Number (min (number n s) limit)) Other
 
 -- how many bytes pass a test before the first that does not
 abbrev pub countWhile : (ℕ → Bool) → List ℕ → ℕ
@@ -45,3 +40,7 @@ point s = countWhile isNoPoint s
 -- how many digits there are from the first that is not zero to the last one written
 abbrev pub significant : List ℕ → ℕ
 significant s = length s - leadingZeros s
+
+-- the digits that bytes start with: how many, and the number that they spell after n, brought down to the limit
+unfoldable pub leadingDigits : ℕ → ℕ → List ℕ → Digits
+leadingDigits n limit s = let k = countWhile isDigit s in record { count = k; number = min (number n (take k s)) limit }

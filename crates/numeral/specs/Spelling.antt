@@ -1,6 +1,7 @@
 -- What the text of a number says. 43 is '+', 45 is '-'.
-use Prim.Native.Nat.{ℕ, suc, _^_}
-use mathlib.Core.Bool.{Bool, false, _&&_, _||_, cond}
+use mathlib.Core.Path.{_≡_}
+use Prim.Native.Nat.{ℕ, suc, _^_, min}
+use mathlib.Core.Bool.{Bool, true, false, _&&_, _||_, cond}
 use mathlib.Core.List.{List, [], _∷_, _++_}
 use lib.Dec.{ltb, eqb}
 use lib.ListN.{length, take, drop}
@@ -60,6 +61,17 @@ ofParts negative w f =
     (Value (round binary64 negative (number 0 (w ++ f)) (10 ^ length f))))
     Malformed
 
-unfoldable pub decimalOf : List ℕ → Decimal
+-- w and f are digits, and d is their number, brought down to 10 ^ 15
+pub record Spelled (w f : List ℕ) (d : ℕ) : Type 0 where
+  pub before : allDigits w ≡ true
+  pub behind : allDigits f ≡ true
+  pub digits : d ≡ min (number 0 (w ++ f)) (10 ^ 15)
+
+-- the first point parts the two
+unfoldable pub unsignedOf : Bool → List ℕ → Decimal
 unfolding ofParts
-decimalOf s = let t = afterSign s in ofParts (isNegative s) (take (point t) t) (drop (suc (point t)) t)
+unsignedOf negative t = ofParts negative (take (point t) t) (drop (suc (point t)) t)
+
+unfoldable pub decimalOf : List ℕ → Decimal
+unfolding unsignedOf
+decimalOf s = unsignedOf (isNegative s) (afterSign s)

@@ -40,8 +40,8 @@ impl Decimal {
     }
 }
 
-// Of bytes that should all be digits.
-pub enum Digits {
-    Number(u64),
-    Other,
+// The digits that bytes start with: how many, and their number up to a limit.
+pub struct Digits {
+    pub count: usize,
+    pub number: u64,
 }

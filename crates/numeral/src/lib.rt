@@ -5,12 +5,11 @@ use answer::Decimal;
 use answer::Digits;
 use answer::Whole;
 ghost use mathlib.Core.Path.{_≡_};
-ghost use Prim.Native.Nat.{_≤_, _^_, suc};
-ghost use lib.ListN.{length, drop};
+ghost use Prim.Native.Nat.{_≤_, _^_};
 ghost use lib.Ieee.{binary64, round, toUnsigned};
 ghost use Rattle.numeral.specs.Moment.{secondOf};
-ghost use Rattle.numeral.specs.Digits.{leadingZeros, point, digitsUpTo};
-ghost use Rattle.numeral.specs.Spelling.{afterPlus, afterSign, isNegative, wholeOf, decimalOf, ofParts, isTooLong};
+ghost use Rattle.numeral.specs.Digits.{leadingZeros, leadingDigits};
+ghost use Rattle.numeral.specs.Spelling.{afterPlus, afterSign, isNegative, wholeOf, decimalOf, unsignedOf, Spelled, ofParts, isTooLong};
 
 // A whole number: an optional plus, then one or more digits, and at most 4294967295.
 pub fn whole(text: &[u8]) -> Whole
@@ -20,12 +19,12 @@ pub fn whole(text: &[u8]) -> Whole
     if digits.len() == 0 {
         return Whole::Malformed;
     }
-    let read = number_up_to(digits, 0, WHOLE_LIMIT);
-    let Digits::Number(value) = read else {
+    let read = leading_digits(digits, 0, WHOLE_LIMIT);
+    if read.count < digits.len() {
         return Whole::Malformed;
-    };
-    if value < WHOLE_LIMIT {
-        Whole::Value(value as u32)
+    }
+    if read.number < WHOLE_LIMIT {
+        Whole::Value(read.number as u32)
     } else {
         Whole::Malformed
     }
@@ -35,10 +34,8 @@ pub fn whole(text: &[u8]) -> Whole
 pub fn decimal(text: &[u8]) -> Decimal
     ensures { λ r. ⌜ r ≡ decimalOf (now (text .entry)) ⌝ }
 {
-    let unsigned = after_sign(text);
-    let point = point_at(unsigned);
-    let fraction = after_point(unsigned, point);
-    of_parts(is_negative(text), &unsigned[..point], fraction)
+    let negative = is_negative(text);
+    unsigned_decimal(negative, after_sign(text))
 }
 
 // The second that a moment falls in: NaN and anything below zero give 0, 2^64 and above the last one, else the whole part.
@@ -64,36 +61,36 @@ pub fn whole_part(x: f64) -> u64
 // The first whole number that is too large.
 const WHOLE_LIMIT: u64 = 4294967296;
 
-// A decimal has at most this many significant digits, so that their number stays below the limit,
+// The most significant digits that a decimal may have, and the first number that has more.
 const SIGNIFICANT: usize = 15;
 
 const DIGITS_LIMIT: u64 = 1000000000000000;
 
-// and at most this many after its point.
+// The most decimals.
 const DECIMALS: usize = 22;
 
-// The number of the digits after `start`, no further than `limit`; or that a byte is no digit.
-fn number_up_to(bytes: &[u8], start: u64, limit: u64) -> Digits
+// The digits that the bytes start with: how many, and the number that they spell after `start`, no further than `limit`.
+fn leading_digits(bytes: &[u8], start: u64, limit: u64) -> Digits
     requires { ⌜ (start ≤ limit) × (limit ≤ 10 ^ 15) ⌝ }
-    ensures { λ r. ⌜ r ≡ digitsUpTo start limit (now (bytes .entry)) ⌝ }
+    ensures { λ r. ⌜ r ≡ leadingDigits start limit (now (bytes .entry)) ⌝ }
 {
-    let mut value = start;
-    let mut at = 0usize;
-    while at < bytes.len() {
-        let b = bytes[at];
-        if b < 48 {
-            return Digits::Other;
+    let mut number = start;
+    let mut count = 0usize;
+    while count < bytes.len() {
+        let b = bytes[count];
+        if b < b'0' {
+            return Digits { count, number };
         }
-        if 57 < b {
-            return Digits::Other;
+        if b'9' < b {
+            return Digits { count, number };
         }
-        value = value * 10 + (b - 48) as u64;
-        if limit < value {
-            value = limit;
+        number = number * 10 + (b - b'0') as u64;
+        if limit < number {
+            number = limit;
         }
-        at += 1;
+        count += 1;
     }
-    Digits::Number(value)
+    Digits { count, number }
 }
 
 // The text after a leading plus.
@@ -101,7 +98,7 @@ fn after_plus(text: &[u8]) -> &[u8]
     ensures { λ r. ⌜ now r ≡ afterPlus (now (text .entry)) ⌝ }
 {
     if 0 < text.len() {
-        if text[0] == 43 {
+        if text[0] == b'+' {
             return &text[1..];
         }
     }
@@ -113,10 +110,10 @@ fn after_sign(text: &[u8]) -> &[u8]
     ensures { λ r. ⌜ now r ≡ afterSign (now (text .entry)) ⌝ }
 {
     if 0 < text.len() {
-        if text[0] == 43 {
+        if text[0] == b'+' {
             return &text[1..];
         }
-        if text[0] == 45 {
+        if text[0] == b'-' {
             return &text[1..];
         }
     }
@@ -127,50 +124,42 @@ fn after_sign(text: &[u8]) -> &[u8]
 fn is_negative(text: &[u8]) -> bool
     ensures { λ r. ⌜ r ≡ isNegative (now (text .entry)) ⌝ }
 {
-    if 0 < text.len() { text[0] == 45 } else { false }
-}
-
-// Where the first point is, and the length where there is none.
-fn point_at(text: &[u8]) -> usize
-    ensures { λ r. ⌜ r ≡ point (now (text .entry)) ⌝ }
-{
-    let mut at = 0usize;
-    while at < text.len() {
-        if text[at] == 46 {
-            return at;
-        }
-        at += 1;
+    if 0 < text.len() {
+        text[0] == b'-'
+    } else {
+        false
     }
-    at
 }
 
-// What follows the point.
-fn after_point(text: &[u8], point: usize) -> &[u8]
-    requires { ⌜ point ≤ length (now text) ⌝ }
-    ensures { λ r. ⌜ now r ≡ drop (suc point) (now (text .entry)) ⌝ }
+// The decimal that stands behind the sign.
+fn unsigned_decimal(negative: bool, text: &[u8]) -> Decimal
+    ensures { λ r. ⌜ r ≡ unsignedOf negative (now (text .entry)) ⌝ }
 {
-    if point < text.len() {
-        let from = point + 1;
-        return &text[from..];
+    let before = leading_digits(text, 0, DIGITS_LIMIT);
+    let point = before.count;
+    if text.len() <= point {
+        return of_digits(negative, text, &text[point..], before.number);
     }
-    &text[point..]
+    if text[point] != b'.' {
+        return Decimal::Malformed;
+    }
+    let from = point + 1;
+    let fraction = &text[from..];
+    let both = leading_digits(fraction, before.number, DIGITS_LIMIT);
+    if both.count < fraction.len() {
+        return Decimal::Malformed;
+    }
+    of_digits(negative, &text[..point], fraction, both.number)
 }
 
-// The decimal whose digits stand before and after the point.
-fn of_parts(negative: bool, whole: &[u8], fraction: &[u8]) -> Decimal
+// The decimal of the digits before and after the point, of which `digits` is the number.
+fn of_digits(negative: bool, whole: &[u8], fraction: &[u8], digits: u64) -> Decimal
+    requires { ⌜ Spelled (now whole) (now fraction) digits ⌝ }
     ensures { λ r. ⌜ r ≡ ofParts negative (now (whole .entry)) (now (fraction .entry)) ⌝ }
 {
     if whole.len() + fraction.len() == 0 {
         return Decimal::Malformed;
     }
-    let before = number_up_to(whole, 0, DIGITS_LIMIT);
-    let Digits::Number(high) = before else {
-        return Decimal::Malformed;
-    };
-    let both = number_up_to(fraction, high, DIGITS_LIMIT);
-    let Digits::Number(digits) = both else {
-        return Decimal::Malformed;
-    };
     if too_long(whole, fraction) {
         return Decimal::TooLong;
     }
@@ -201,7 +190,7 @@ fn leading_zeros(digits: &[u8]) -> usize
 {
     let mut at = 0usize;
     while at < digits.len() {
-        if digits[at] != 48 {
+        if digits[at] != b'0' {
             return at;
         }
         at += 1;

@@ -23,7 +23,7 @@ struct Run {
 }
 
 fn main() {
-    let mut name = [0u8; 4096];
+    let mut name = io::buffer();
     let last = os::arg_count();
     let mut i = 1usize;
     while i < last {
@@ -40,7 +40,7 @@ fn replay_file(name: &[u8]) {
         return;
     }
     io::write_all(STDOUT_FILENO, name);
-    let mut room = [0u8; 65536];
+    let mut room = io::large_buffer();
     replay(fd, &mut room);
     libc::close(fd);
 }

@@ -1,6 +1,5 @@
 -- `cases_in` ends, since a case has at least one byte, and stays within the bytes. Assumes nothing.
 use Prim.Native.Nat.{_≤_, _-_}
-use native.Mathlib.Omega.{arith}
 use lib.ListN.{length}
 use borrow.Author.Needs.{needs}
 use Rattle.replay_numbers.proofs.cases_in.Statement.{statement}

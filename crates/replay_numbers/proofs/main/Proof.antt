@@ -1,7 +1,6 @@
 -- `main` ends: each turn is one argument more. Assumes nothing.
 use mathlib.Core.Path.{_≡_}
-use Prim.Native.Nat.{_≤_, _<_, _^_, _-_}
-use native.Mathlib.Omega.{arith}
+use Prim.Native.Nat.{_<_, _^_, _-_}
 use lib.ListN.{length}
 use borrow.Author.Needs.{needs}
 use Rattle.replay_numbers.proofs.main.Statement.{statement}
@@ -12,6 +11,9 @@ Inv-loop name₀ last i₀ name i = (last < 2 ^ 64) × (length name ≡ 4096)
 
 abbrev μ-loop : tie.MeasureT-loop
 μ-loop name₀ last i₀ name i = last - i
+
+buffer-requires : tie.Need-buffer-requires Inv-loop μ-loop
+buffer-requires c κs = search needs
 
 arg-count-requires : tie.Need-arg-count-requires Inv-loop μ-loop
 arg-count-requires c κs = search needs
@@ -52,6 +54,7 @@ main-spec =
     (tie.spec
     Inv-loop
     μ-loop
+    buffer-requires
     arg-count-requires
     loop-holds
     slice-aggregate-arg

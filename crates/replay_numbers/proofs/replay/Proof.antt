@@ -1,7 +1,6 @@
 -- `replay` ends, and what is read stays in the room. Assumes nothing.
 use mathlib.Core.Path.{_≡_}
 use Prim.Native.Nat.{_≤_, _-_}
-use native.Mathlib.Omega.{arith}
 use lib.ListN.{length}
 use borrow.Author.Needs.{needs}
 use Rattle.replay_numbers.proofs.replay.Statement.{statement}

@@ -1,6 +1,5 @@
 -- `column::bits_in` ends and stays in bounds. Assumes nothing.
 use Prim.Native.Nat.{_≤_, _-_}
-use native.Mathlib.Omega.{arith}
 use lib.ListN.{length}
 use borrow.Author.Needs.{needs}
 use Rattle.replay_numbers.proofs.column.bits_in.Statement.{statement}

@@ -1,6 +1,5 @@
 -- `source::line_end` ends and answers a place of the bytes. Assumes nothing.
 use Prim.Native.Nat.{_≤_, _-_}
-use native.Mathlib.Omega.{arith}
 use lib.ListN.{length}
 use Rattle.replay_numbers.proofs.Places.{counts}
 use borrow.Author.Needs.{needs}

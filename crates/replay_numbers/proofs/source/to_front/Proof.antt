@@ -1,7 +1,6 @@
 -- `source::to_front` ends, stays in the room and answers a place of it. Assumes nothing.
 use mathlib.Core.Path.{_≡_}
 use Prim.Native.Nat.{_≤_, _-_}
-use native.Mathlib.Omega.{arith}
 use lib.ListN.{length, length-set}
 use borrow.Author.Needs.{needs}
 use Rattle.replay_numbers.proofs.source.to_front.Statement.{statement}

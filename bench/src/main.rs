@@ -1,0 +1,9 @@
+//! Measures the proved entry points and the Rust's side by side, in one run, turn and turn about.
+mod dice;
+mod numbers;
+mod ours;
+mod side;
+
+fn main() {
+    numbers::decimals();
+}
