@@ -1,4 +1,4 @@
-//! One case: a text, document 01's answer to it and Rust's. Where the two have to agree and do not,
+//! One case: a text, the rules' answer to it and Rust's. Where the two have to agree and do not,
 //! making the case panics.
 use crate::reading::{self, NO_DECIMAL, TOO_LONG};
 use crate::second::second;
@@ -25,7 +25,7 @@ pub enum Kind {
 #[derive(Clone, Debug, PartialEq, Eq, Hash)]
 pub struct Case {
     pub kind: Kind,
-    /// What document 01 says.
+    /// What the rules say.
     pub answer: Column,
     /// What Rust says.
     pub rust: Column,

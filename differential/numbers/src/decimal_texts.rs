@@ -102,7 +102,7 @@ pub fn of_number((number, decimals): (u64, usize)) -> Vec<u8> {
     spelled(&number.to_string(), decimals).into_bytes()
 }
 
-/// One that document 01 reads: at most 15 digits and 22 decimals.
+/// One that the rules read: at most 15 digits and 22 decimals.
 pub fn random_read(dice: &mut Dice) -> Vec<u8> {
     let digits = random_digits(dice.between(1, 15), dice);
     let plain = spelled(&digits, dice.between(0, 22));

@@ -33,7 +33,7 @@ pub fn powers_of_two() -> Vec<u64> {
         .collect()
 }
 
-/// Whole numbers that a day meets and both neighbours, of both signs; and document 01's P11.
+/// Whole numbers that a day meets and both neighbours, of both signs; and the rules' P11.
 pub fn whole_numbers() -> Vec<u64> {
     let wholes = [
         3.0,

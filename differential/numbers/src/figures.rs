@@ -10,7 +10,7 @@ pub struct Figures {
     seconds: usize,
     read_by_both: usize,
     refused_by_both: usize,
-    /// Read by Rust and refused by document 01, by why it is refused.
+    /// Read by Rust and refused by the rules, by why it is refused.
     exponent: usize,
     word: usize,
     over_digits: usize,

@@ -1,4 +1,4 @@
-//! Cases of numbers in text and of whole seconds: document 01's answer, worked out here by hand,
+//! Cases of numbers in text and of whole seconds: the rules' answer, worked out here by hand,
 //! beside Rust's own. Nothing here needs the Rust's files.
 pub mod case;
 pub mod case_file;

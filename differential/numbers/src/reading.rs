@@ -1,4 +1,4 @@
-//! Document 01's "Reading text" for one number, by hand over bytes.
+//! One number in text, as docs/RULES.md has it, read by hand over bytes.
 use crate::rounding::nearest;
 
 /// Refusal 5: a whole number is malformed or above 4,294,967,295.

@@ -45,7 +45,7 @@ mod tests {
         assert_eq!(nearest(999_999_999_999_999, 0), 0x430c_6bf5_2633_fff8);
     }
 
-    /// A tie needs a numerator of 54 bits: 15 digits have 50, so that no text of document 01's is
+    /// A tie needs a numerator of 54 bits: 15 digits have 50, so that no text that is read is
     /// one. The rule is there all the same, and is met just above 2^53.
     #[test]
     fn ties_go_to_even() {

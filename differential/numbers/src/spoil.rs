@@ -1,4 +1,4 @@
-//! Copies of cases with a wrong answer of document 01's: a replay has to count every one of them.
+//! Copies of cases with a wrong answer: a replay has to count every one of them.
 use crate::case::Case;
 
 /// The case with the last digit of its answer changed: to another refusal's number where it is

@@ -1,5 +1,5 @@
 //! `config::model`, of which the Rust uses one function whose body was not given: it is read from
-//! a lent list indexed by batch, as document 01 has it.
+//! a lent list indexed by batch, as the rules have it.
 use std::cell::RefCell;
 
 #[derive(Default)]

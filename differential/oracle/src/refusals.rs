@@ -1,4 +1,4 @@
-//! The Rust's error texts in document 01's refusal numbers. Where the Rust has no such refusal (1,
+//! The Rust's error texts in the rules' refusal numbers. Where the Rust has no such refusal (1,
 //! 7, 11, 16) there is nothing to map.
 
 /// Refusal number and row.

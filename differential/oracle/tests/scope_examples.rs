@@ -1,5 +1,4 @@
-//! The worked examples of document 01 ("The proved table, and others to run"), on the unchanged
-//! Rust.
+//! The worked examples of docs/RULES.md, on the unchanged Rust.
 use oracle::compute::measured;
 use oracle::config::*;
 use oracle::request::Request;
@@ -169,7 +168,7 @@ fn run_the_signal_is_the_last_columns_whatever_their_names() {
     assert_eq!((bank.max_depth, &bank.rounds[0].a_hat[..]), (1, &[7.0][..]));
 }
 
-/// A listed difference: document 01 reads 15 digits and refuses 16 with 7; the Rust takes both.
+/// A listed difference: the rules read 15 digits and refuse 16 with 7; the Rust takes both.
 #[test]
 fn run_the_rust_takes_15_digits_and_16_too() {
     for (digits, value) in [
@@ -185,7 +184,7 @@ fn run_the_rust_takes_15_digits_and_16_too() {
     }
 }
 
-/// A listed difference: document 01 holds 256 workers and refuses a 257th with 17; the Rust has no
+/// A listed difference: the rules hold 256 workers and refuse a 257th with 17; the Rust has no
 /// limit.
 #[test]
 fn run_the_rust_takes_256_workers_and_a_257th_too() {

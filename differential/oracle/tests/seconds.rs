@@ -17,7 +17,7 @@ fn planner() -> SpecPlanner {
     SpecPlanner::over(cfg, None, None)
 }
 
-/// One step alone: the Rust puts it into `end.max(0.0) as u64`, which is also document 01's rule,
+/// One step alone: the Rust puts it into `end.max(0.0) as u64`, which is also what the rules say,
 /// worked out from the bits.
 fn check(end: u64) {
     let mut planner = planner();

@@ -1,4 +1,4 @@
-//! The Rust's readers on small texts, and the refusal that document 01 gives the same fault.
+//! The Rust's readers on small texts, and the refusal that the rules give the same fault.
 use oracle::compute::measured::probe::parse;
 use oracle::config::TraceBank;
 use oracle::refusals::of_text;
@@ -51,7 +51,7 @@ fn table_refusals() {
     assert_eq!(rows(" 1 ,\t2\x0b, +1.5 \n"), Ok(()));
 }
 
-/// An empty sum is minus zero in this Rust; nothing of document 01 sums an empty list where that
+/// An empty sum is minus zero in this Rust; nothing in the rules sums an empty list where that
 /// shows.
 #[test]
 fn an_empty_sum_is_minus_zero() {

@@ -1,5 +1,6 @@
 -- `numeral::whole` meets its contract: each way out is a law of `Outcomes` for the text after the plus. Assumes nothing.
 use mathlib.Core.Path.{ap, _∙_}
+use native.Mathlib.Omega.{arith}
 use Rattle.numeral.specs.Spelling.{wholeOf, ofDigits}
 use Rattle.numeral.proofs.Outcomes.{whole-empty, whole-other, whole-value, whole-large}
 use borrow.Author.Needs.{needs}
@@ -23,7 +24,7 @@ returns-2 c =
     whole-other (c .before .before .before .before .after-plus .result .now) (read .result) (read .ensures) (c .if2 .taken) ∙ ap ofDigits (c .before .before .before .before .after-plus .ensures)
 
 cast-t7 : tie.Need-cast-t7
-cast-t7 c = search needs
+cast-t7 c = omega arith
 
 returns-3 : tie.Need-returns-3
 unfolding wholeOf

@@ -15,9 +15,9 @@ struct Lent {
 pub struct Used {
     pub floats: usize,
     pub indices: usize,
-    /// Draws asked for past the end of the list: document 01's refusal 13.
+    /// Draws asked for past the end of the list: the rules' refusal 13.
     pub absent: usize,
-    /// Indices that were not below the range's end: document 01's refusal 14.
+    /// Indices that were not below the range's end: the rules' refusal 14.
     pub out_of_range: usize,
 }
 

@@ -11,7 +11,7 @@ pub mod collections {
         static POPS: Cell<u64> = const { Cell::new(0) };
     }
 
-    /// Pops that gave an element since the last call: document 01's "slots weighed".
+    /// Pops that gave an element since the last call: the rules' "slots weighed".
     pub fn take_pops() -> u64 {
         POPS.replace(0)
     }
