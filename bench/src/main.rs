@@ -1,4 +1,6 @@
 //! Measures the proved entry points and the Rust's side by side, in one run, turn and turn about.
+#[cfg(feature = "rust")]
+mod banks;
 mod dice;
 mod numbers;
 mod ours;
@@ -6,4 +8,6 @@ mod side;
 
 fn main() {
     numbers::decimals();
+    #[cfg(feature = "rust")]
+    banks::readings();
 }

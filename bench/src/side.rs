@@ -15,7 +15,7 @@ pub fn by_side(name: &str, count: usize, ours: impl Fn() -> u64, rust: impl Fn()
     let (a, b) = (median(a), median(b));
     let each = |t: Duration| t.as_secs_f64() * 1e9 / count as f64;
     println!(
-        "{name}: ours {:.1} ns, the Rust {:.1} ns each, ratio {:.2}",
+        "{name}: ours {:.2} ns, the Rust {:.2} ns each, ratio {:.2}",
         each(a),
         each(b),
         each(a) / each(b)

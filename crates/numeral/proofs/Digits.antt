@@ -106,7 +106,7 @@ all-counted (b ∷ s) = go (isDigit b) (all-counted s)
     go true e = e ∙ sym (leb·suc-suc (length s) (countWhile isDigit s))
     go false e = sym (leb·suc-zero (length s))
 
-all-by-count : (s : List ℕ) → length s ≤ countWhile isDigit s → allDigits s ≡ true
+pub all-by-count : (s : List ℕ) → length s ≤ countWhile isDigit s → allDigits s ≡ true
 all-by-count s h = all-counted s ∙ le-leb (length s) (countWhile isDigit s) h
 
 pub other-by-count : (s : List ℕ) → countWhile isDigit s < length s → allDigits s ≡ false
@@ -207,6 +207,3 @@ pub number-of-all : (n l : ℕ) (s : List ℕ) (d : Digits) → d ≡ leadingDig
 number-of-all n l s d e h =
     number-is n l s d e
     ∙ ap (λ (t : List ℕ). min (number n t) l) (take-all (countWhile isDigit s) s (subst (λ (k : ℕ). length s ≤ k) (count-is n l s d e) h))
-
-pub all-read : (n l : ℕ) (s : List ℕ) (d : Digits) → d ≡ leadingDigits n l s → length s ≤ d .count → allDigits s ≡ true
-all-read n l s d e h = all-by-count s (subst (λ (k : ℕ). length s ≤ k) (count-is n l s d e) h)

@@ -1,6 +1,6 @@
 -- What a text says, by the tests that the code makes: each law is one way out. Assumes nothing.
 use mathlib.Core.Path.{_≡_, refl, sym, ap, _∙_, subst}
-use mathlib.Core.Bool.{Bool, true, false, not, _&&_, _||_}
+use mathlib.Core.Bool.{Bool, true, false, not, _&&_, _||_, cond}
 use mathlib.Core.List.{List, [], _++_, append-nil}
 use Prim.Native.Nat.{ℕ, suc, _+_, _-_, _^_, _≤_, _<_, min}
 use native.Mathlib.Nat.{le-of-lt, min-eq-left}
@@ -15,9 +15,10 @@ use Rattle.numeral.specs.declared.answer.Whole.the-variants.{Value as Wh
 use Rattle.numeral.specs.declared.answer.Decimal.the-variants.{Value, Malformed, TooLong}
 use Rattle.numeral.specs.declared.answer.Digits.{Digits}
 use Rattle.numeral.specs.Digits.{isDigit, allDigits, number, countWhile, leadingDigits, leadingZeros, significant, point, isZero, isNoPoint}
+use Rattle.numeral.specs.Refusals.{decimalRefusal}
 use Rattle.numeral.specs.Spelling.{ofDigits, Spelled, ofParts, unsignedOf, isTooLong}
 use Rattle.numeral.proofs.Bytes.{count-before, count-through, count-past, count-ends, count-goes-on, count-stops}
-use Rattle.numeral.proofs.Digits.{and-false, all-append, number-append, few-below, all-leading, all-read, other-by-count, other-among, capped-before, count-is, number-is as number-from, number-of-all}
+use Rattle.numeral.proofs.Digits.{and-false, all-append, number-append, few-below, all-leading, all-by-count, other-by-count, other-among, capped-before, count-is, number-is as number-from, number-of-all}
 
 above-zero : (n : ℕ) → (n ≡ 0 → ⊥) → 0 < n
 above-zero n h = omega arith
@@ -38,6 +39,9 @@ over : (n v : ℕ) → v ≡ min n (2 ^ 32) → 2 ^ 32 ≤ v → 2 ^ 32 ≤ n
 over n v e h = omega arith
 
 module _ (s : List ℕ) (d : Digits) (read : d ≡ leadingDigits 0 (2 ^ 32) s) where
+  digits-read : length s ≤ d .count → allDigits s ≡ true
+  digits-read h = all-by-count s (subst (λ (k : ℕ). length s ≤ k) (count-is 0 (2 ^ 32) s d read) h)
+
   pub whole-other : d .count < length s → NoWhole ≡ ofDigits s
   unfolding ofDigits
   whole-other h = rw (other-by-count s (subst (λ (k : ℕ). k < length s) (count-is 0 (2 ^ 32) s d read) h), and-false (ltb 0 (length s)))
@@ -46,7 +50,7 @@ module _ (s : List ℕ) (d : Digits) (read : d ≡ leadingDigits 0 (2 ^ 32) s) w
   unfolding ofDigits
   whole-value n all h =
       let same : number 0 s ≡ d .number = uncapped (number 0 s) (d .number) (number-of-all 0 (2 ^ 32) s d read all) h in
-      rw (lt-ltb 0 (length s) (above-zero (length s) n), all-read 0 (2 ^ 32) s d read all, same, lt-ltb (d .number) (2 ^ 32) h)
+      rw (lt-ltb 0 (length s) (above-zero (length s) n), digits-read all, same, lt-ltb (d .number) (2 ^ 32) h)
 
   pub whole-large : length s ≤ d .count → 2 ^ 32 ≤ d .number → NoWhole ≡ ofDigits s
   unfolding ofDigits
@@ -138,11 +142,8 @@ module _ (negative : Bool) (w f : List ℕ) where
   pub other-after : allDigits f ≡ false → Malformed ≡ ofParts negative w f
   other-after e = other (rw e (and-false (allDigits w)))
 
-  -- from here on the text is well formed, and d is the number of its digits, brought down to the limit
-  module _ (some : length w + length f ≡ 0 → ⊥) (d : ℕ) (read : Spelled w f d) where
-    all : allDigits (w ++ f) ≡ true
-    all = all-append w f ∙ rw (read .before, read .behind)
-
+  -- from here on the text is well formed
+  module _ (some : length w + length f ≡ 0 → ⊥) (all : allDigits (w ++ f) ≡ true) where
     well-formed : (ltb 0 (length (w ++ f)) && allDigits (w ++ f)) ≡ true
     well-formed = rw (all, length-append w f, lt-ltb 0 (length w + length f) (above-zero (length w + length f) some))
 
@@ -150,75 +151,109 @@ module _ (negative : Bool) (w f : List ℕ) where
     unfolding ofParts
     too-long-is h = rw (well-formed, h)
 
-    number-is : isTooLong w f ≡ false → d ≡ number 0 (w ++ f)
-    number-is h = read .digits ∙ min-eq-left (le-of-lt (few-below (w ++ f) (subst T (sym all) tt) (few-significant w f h)))
+    -- d is the number of the digits, brought down to the limit
+    number-is : (d : ℕ) → d ≡ min (number 0 (w ++ f)) (10 ^ 15) → isTooLong w f ≡ false → d ≡ number 0 (w ++ f)
+    number-is d read h = read ∙ min-eq-left (le-of-lt (few-below (w ++ f) (subst T (sym all) tt) (few-significant w f h)))
 
-    pub value-is : isTooLong w f ≡ false → Value (round binary64 negative d (10 ^ length f)) ≡ ofParts negative w f
+    pub value-is : (d : ℕ) → d ≡ min (number 0 (w ++ f)) (10 ^ 15) → isTooLong w f ≡ false → Value (round binary64 negative d (10 ^ length f)) ≡ ofParts negative w f
     unfolding ofParts
-    value-is h = rw (well-formed, h, number-is h)
+    value-is d read h = rw (well-formed, h, number-is d read h)
 
--- ---- where the point is: a are the digits that stand before it
+    pub nothing-wrong : isTooLong w f ≡ false → 0 ≡ decimalRefusal (ofParts negative w f)
+    unfolding ofParts
+    nothing-wrong h = rw (well-formed, h)
+
+pub all-of-both : (w f : List ℕ) → allDigits w ≡ true → allDigits f ≡ true → allDigits (w ++ f) ≡ true
+all-of-both w f p q = all-append w f ∙ rw (p, q)
+
+-- what is wrong with a decimal is so whatever its sign
+parts-signless : (a b : Bool) (w f : List ℕ) → decimalRefusal (ofParts a w f) ≡ decimalRefusal (ofParts b w f)
+unfolding ofParts
+parts-signless a b w f = go (ltb 0 (length (w ++ f)) && allDigits (w ++ f)) (isTooLong w f)
+  where
+    go : (x y : Bool) → decimalRefusal (cond x (cond y TooLong (Value (round binary64 a (number 0 (w ++ f)) (10 ^ length f)))) Malformed) ≡ decimalRefusal (cond x (cond y TooLong (Value (round binary64 b (number 0 (w ++ f)) (10 ^ length f)))) Malformed)
+    go true true = refl
+    go true false = refl
+    go false y = refl
+
+pub signless : (a b : Bool) (t : List ℕ) → decimalRefusal (unsignedOf a t) ≡ decimalRefusal (unsignedOf b t)
+unfolding unsignedOf
+signless a b t = parts-signless a b (take (point t) t) (drop (suc (point t)) t)
+
+-- ---- where the point is: k digits stand before it
 
 digit-no-point : (b : ℕ) → isDigit b ≡ true → isNoPoint b ≡ true
 digit-no-point b e = ap not (ne-eqb b 46 (λ z. let f : true ≡ false = sym e ∙ ap isDigit z in absurd (subst T f tt)))
 
-module _ (negative : Bool) (t : List ℕ) (a : Digits) (read : a ≡ leadingDigits 0 (10 ^ 15) t) where
-  count : a .count ≡ countWhile isDigit t
-  count = count-is 0 (10 ^ 15) t a read
-
-  past : point t ≡ a .count + point (drop (a .count) t)
-  past = subst (λ (k : ℕ). point t ≡ k + point (drop k t)) (sym count) (count-past isNoPoint isDigit digit-no-point t)
+module _ (negative : Bool) (t : List ℕ) (k : ℕ) (count : k ≡ countWhile isDigit t) where
+  past : point t ≡ k + point (drop k t)
+  past = subst (λ (i : ℕ). point t ≡ i + point (drop i t)) (sym count) (count-past isNoPoint isDigit digit-no-point t)
 
   -- only digits: there is none
-  pub alone : (f : List ℕ) → length t ≤ a .count → f ≡ drop (a .count) t → Spelled t f (a .number)
-  alone f h e =
-      let e' : f ≡ [] = e ∙ drop-of-length-le t h in
-      rw e' (record { before = all-read 0 (10 ^ 15) t a read h; behind = refl; digits = rw append-nil (number-of-all 0 (10 ^ 15) t a read h) })
-
-  pub no-point : (f : List ℕ) → length t ≤ a .count → f ≡ drop (a .count) t → ofParts negative t f ≡ unsignedOf negative t
+  pub no-point : (f : List ℕ) → length t ≤ k → f ≡ drop k t → ofParts negative t f ≡ unsignedOf negative t
   unfolding unsignedOf
   no-point f h e =
       let far : length t ≤ point t = omega (arith, past) in
       let further : length t ≤ suc (point t) = omega arith in
-      ap (λ (l : List ℕ). ofParts negative t l) (e ∙ drop-of-length-le t h ∙ sym (drop-of-length-le t further)) ∙ ap (λ (l : List ℕ). ofParts negative l (drop (suc (point t)) t)) (sym (take-all (point t) t far))
+      ap (λ (l : List ℕ). ofParts negative t l) (e ∙ drop-of-length-le t h ∙ sym (drop-of-length-le t further))
+      ∙ ap (λ (l : List ℕ). ofParts negative l (drop (suc (point t)) t)) (sym (take-all (point t) t far))
 
   -- another byte than the point ends the digits
-  pub other-than-point : a .count < length t → (getD t (a .count) 0 ≡ 46 → ⊥) → Malformed ≡ unsignedOf negative t
+  pub other-than-point : k < length t → (getD t k 0 ≡ 46 → ⊥) → Malformed ≡ unsignedOf negative t
   unfolding unsignedOf
   other-than-point h n =
-      let k = a .count in
       let later : point (drop k t) ≡ suc (point (drop (k + 1) t)) = count-goes-on isNoPoint t k h (ap not (ne-eqb (getD t k 0) 46 n)) in
       let further : k < point t = omega (arith, past) in
       let stops : isDigit (getD t k 0) ≡ false = subst (λ (i : ℕ). isDigit (getD t i 0) ≡ false) (sym count) (count-stops isDigit t (subst (λ (i : ℕ). i < length t) count h)) in
       other-before negative (take (point t) t) (drop (suc (point t)) t) (other-among (point t) k t further h stops)
 
-  -- the point ends them: f follows it
-  module _ (f : List ℕ) (here : a .count < length t) (dot : getD t (a .count) 0 ≡ 46) (rest : f ≡ drop (a .count + 1) t) where
-    at-point : point t ≡ a .count
-    at-point = let z : point (drop (a .count) t) ≡ 0 = count-ends isNoPoint t (a .count) here (ap not (eq-eqb (getD t (a .count) 0) 46 dot)) in omega (arith, past)
+  -- the point ends them: f follows it, with j digits at its front
+  module _ (f : List ℕ) (here : k < length t) (dot : getD t k 0 ≡ 46) (rest : f ≡ drop (k + 1) t) where
+    at-point : point t ≡ k
+    at-point = let z : point (drop k t) ≡ 0 = count-ends isNoPoint t k here (ap not (eq-eqb (getD t k 0) 46 dot)) in omega (arith, past)
 
-    pub parted : ofParts negative (take (a .count) t) f ≡ unsignedOf negative t
+    pub parted : ofParts negative (take k t) f ≡ unsignedOf negative t
     unfolding unsignedOf
     parted =
-        ap (λ (l : List ℕ). ofParts negative (take (a .count) t) l) (rest ∙ ap (λ (i : ℕ). drop i t) (add-one (a .count)))
+        ap (λ (l : List ℕ). ofParts negative (take k t) l) (rest ∙ ap (λ (i : ℕ). drop i t) (add-one k))
         ∙ ap (λ (i : ℕ). ofParts negative (take i t) (drop (suc i) t)) (sym at-point)
 
-    module _ (b : Digits) (more : b ≡ leadingDigits (a .number) (10 ^ 15) f) where
-      pub other-behind : b .count < length f → Malformed ≡ unsignedOf negative t
-      other-behind h =
-          other-after negative (take (a .count) t) f (other-by-count f (subst (λ (k : ℕ). k < length f) (count-is (a .number) (10 ^ 15) f b more) h)) ∙ parted
+    pub other-behind : (j : ℕ) → j ≡ countWhile isDigit f → j < length f → Malformed ≡ unsignedOf negative t
+    other-behind j e h = other-after negative (take k t) f (other-by-count f (subst (λ (i : ℕ). i < length f) e h)) ∙ parted
 
-      pub both-parts : length f ≤ b .count → Spelled (take (a .count) t) f (b .number)
-      both-parts h =
-          record {
-            before = rw count (all-leading t);
-            behind = all-read (a .number) (10 ^ 15) f b more h;
-            digits =
-                number-of-all (a .number) (10 ^ 15) f b more h
-                ∙ ap (λ (n : ℕ). min (number n f) (10 ^ 15)) (first-number ∙ ap (λ (l : List ℕ). min (number 0 l) (10 ^ 15)) (ap (λ (k : ℕ). take k t) (sym count)))
-                ∙ capped-before (number 0 (take (a .count) t)) (10 ^ 15) f
-                ∙ ap (λ (n : ℕ). min n (10 ^ 15)) (sym (number-append 0 (take (a .count) t) f));
-          }
-        where
-          first-number : a .number ≡ min (number 0 (take (countWhile isDigit t) t)) (10 ^ 15)
-          first-number = number-from 0 (10 ^ 15) t a read
+-- ---- digits before and after the point, by their counts
+
+pub digits-before : (t : List ℕ) (k : ℕ) → k ≡ countWhile isDigit t → allDigits (take k t) ≡ true
+digits-before t k e = rw e (all-leading t)
+
+pub digits-all : (t : List ℕ) (k : ℕ) → k ≡ countWhile isDigit t → length t ≤ k → allDigits t ≡ true
+digits-all t k e h = all-by-count t (subst (λ (i : ℕ). length t ≤ i) e h)
+
+pub none-left : (t f : List ℕ) (k : ℕ) → length t ≤ k → f ≡ drop k t → f ≡ []
+none-left t f k h e = e ∙ drop-of-length-le t h
+
+pub digits-none : (t f : List ℕ) (k : ℕ) → length t ≤ k → f ≡ drop k t → allDigits f ≡ true
+digits-none t f k h e = rw (none-left t f k h e)
+
+-- ---- and their number: a are the digits before the point
+
+module _ (t : List ℕ) (a : Digits) (read : a ≡ leadingDigits 0 (10 ^ 15) t) (f : List ℕ) where
+  count : a .count ≡ countWhile isDigit t
+  count = count-is 0 (10 ^ 15) t a read
+
+  pub alone : length t ≤ a .count → f ≡ drop (a .count) t → Spelled t f (a .number)
+  alone h e =
+      rw (none-left t f (a .count) h e)
+      (record { before = digits-all t (a .count) count h; behind = refl; digits = rw append-nil (number-of-all 0 (10 ^ 15) t a read h) })
+
+  pub both-parts : (b : Digits) → b ≡ leadingDigits (a .number) (10 ^ 15) f → length f ≤ b .count → Spelled (take (a .count) t) f (b .number)
+  both-parts b more h =
+      record {
+        before = digits-before t (a .count) count;
+        behind = digits-all f (b .count) (count-is (a .number) (10 ^ 15) f b more) h;
+        digits =
+            number-of-all (a .number) (10 ^ 15) f b more h
+            ∙ ap (λ (n : ℕ). min (number n f) (10 ^ 15)) (number-from 0 (10 ^ 15) t a read ∙ ap (λ (k : ℕ). min (number 0 (take k t)) (10 ^ 15)) (sym count))
+            ∙ capped-before (number 0 (take (a .count) t)) (10 ^ 15) f
+            ∙ ap (λ (n : ℕ). min n (10 ^ 15)) (sym (number-append 0 (take (a .count) t) f));
+      }

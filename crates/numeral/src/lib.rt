@@ -5,10 +5,12 @@ use answer::Decimal;
 use answer::Digits;
 use answer::Whole;
 ghost use mathlib.Core.Path.{_≡_};
+ghost use mathlib.Core.Bool.{true, false};
 ghost use Prim.Native.Nat.{_≤_, _^_};
 ghost use lib.Ieee.{binary64, round, toUnsigned};
 ghost use Rattle.numeral.specs.Moment.{secondOf};
-ghost use Rattle.numeral.specs.Digits.{leadingZeros, leadingDigits};
+ghost use Rattle.numeral.specs.Refusals.{decimalRefusal};
+ghost use Rattle.numeral.specs.Digits.{isDigit, allDigits, countWhile, leadingZeros, leadingDigits};
 ghost use Rattle.numeral.specs.Spelling.{afterPlus, afterSign, isNegative, wholeOf, decimalOf, unsignedOf, Spelled, ofParts, isTooLong};
 
 // A whole number: an optional plus, then one or more digits, and at most 4294967295.
@@ -36,6 +38,13 @@ pub fn decimal(text: &[u8]) -> Decimal
 {
     let negative = is_negative(text);
     unsigned_decimal(negative, after_sign(text))
+}
+
+// What is wrong with a decimal, 0 for nothing: its value is not worked out.
+pub fn decimal_refusal(text: &[u8]) -> u64
+    ensures { λ r. ⌜ r ≡ decimalRefusal (decimalOf (now (text .entry))) ⌝ }
+{
+    unsigned_refusal(after_sign(text))
 }
 
 // The second that a moment falls in: NaN and anything below zero give 0, 2^64 and above the last one, else the whole part.
@@ -164,6 +173,57 @@ fn of_digits(negative: bool, whole: &[u8], fraction: &[u8], digits: u64) -> Deci
         return Decimal::TooLong;
     }
     Decimal::Value(quotient(negative, digits, fraction.len()))
+}
+
+// What is wrong with the decimal behind a sign.
+fn unsigned_refusal(text: &[u8]) -> u64
+    ensures { λ r. ⌜ r ≡ decimalRefusal (unsignedOf false (now (text .entry))) ⌝ }
+{
+    let before = digit_count(text);
+    if text.len() <= before {
+        return digits_refusal(text, &text[before..]);
+    }
+    if text[before] != b'.' {
+        return 6;
+    }
+    let from = before + 1;
+    let fraction = &text[from..];
+    if digit_count(fraction) < fraction.len() {
+        return 6;
+    }
+    digits_refusal(&text[..before], fraction)
+}
+
+// What is wrong with the digits before and after the point.
+fn digits_refusal(whole: &[u8], fraction: &[u8]) -> u64
+    requires { ⌜ (allDigits (now whole) ≡ true) × (allDigits (now fraction) ≡ true) ⌝ }
+    ensures { λ r. ⌜ r ≡ decimalRefusal (ofParts false (now (whole .entry)) (now (fraction .entry))) ⌝ }
+{
+    if whole.len() + fraction.len() == 0 {
+        return 6;
+    }
+    if too_long(whole, fraction) {
+        return 7;
+    }
+    0
+}
+
+// How many digits the bytes start with.
+fn digit_count(bytes: &[u8]) -> usize
+    ensures { λ r. ⌜ r ≡ countWhile isDigit (now (bytes .entry)) ⌝ }
+{
+    let mut at = 0usize;
+    while at < bytes.len() {
+        let b = bytes[at];
+        if b < b'0' {
+            return at;
+        }
+        if b'9' < b {
+            return at;
+        }
+        at += 1;
+    }
+    at
 }
 
 // Whether the digits are more than a decimal may have. Only where there are many in all are the leading zeros counted.

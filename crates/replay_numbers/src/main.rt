@@ -1,7 +1,6 @@
 // Replays recorded answers: reads the case files that its arguments name, reads each case's text anew, and compares by bits.
 // A case is a line `KIND ANSWER RUST LENGTH TEXT`: what the rules say of the text and what the Rust answers, 16 bytes each.
 mod column;
-mod source;
 mod tally;
 
 use column::Column;
@@ -47,13 +46,13 @@ fn replay_file(name: &[u8]) {
 
 // The first line says what space the cases are from; the cases follow.
 fn replay(fd: i32, room: &mut [u8]) {
-    let mut end = source::refill(fd, room, 0, 0);
-    let mut at = source::print_line(&room[..end]);
+    let mut end = cases::refill(fd, room, 0, 0);
+    let mut at = cases::print_line(&room[..end]);
     let mut tally = Tally::new();
     let mut fillings = 0u64;
     while fillings < FILLINGS {
         fillings += 1;
-        end = source::refill(fd, room, at, end);
+        end = cases::refill(fd, room, at, end);
         if end == 0 {
             tally.print();
             return;

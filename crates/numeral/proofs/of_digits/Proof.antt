@@ -2,7 +2,7 @@
 use mathlib.Core.Path.{sym, ap, _∙_}
 use native.Mathlib.Omega.{arith}
 use Rattle.numeral.specs.declared.answer.Decimal.the-variants.{Value}
-use Rattle.numeral.proofs.Outcomes.{no-digit, too-long-is, few-decimals, value-is}
+use Rattle.numeral.proofs.Outcomes.{no-digit, all-of-both, too-long-is, few-decimals, value-is}
 use borrow.Author.Needs.{needs}
 use Rattle.numeral.proofs.of_digits.Statement.{statement}
 use Rattle.numeral.proofs.of_digits.Tie as tie
@@ -21,7 +21,7 @@ too-long-requires c κs = search needs
 returns-2 : tie.Need-returns-2
 returns-2 c =
     let a = c .before .before .before .before .before .args in
-    too-long-is (a .negative) (a .whole .now) (a .fraction .now) (c .before .before .if1 .left) (a .digits) (c .before .before .before .before .before .pre) (sym (c .before .too-long .ensures) ∙ c .if2 .taken)
+    too-long-is (a .negative) (a .whole .now) (a .fraction .now) (c .before .before .if1 .left) (all-of-both (a .whole .now) (a .fraction .now) (c .before .before .before .before .before .pre .before) (c .before .before .before .before .before .pre .behind)) (sym (c .before .too-long .ensures) ∙ c .if2 .taken)
 
 quotient-requires : tie.Need-quotient-requires
 quotient-requires c κs =
@@ -32,7 +32,7 @@ returns-3 : tie.Need-returns-3
 returns-3 c =
     let a = c .before .before .before .before .before .before .args in
     ap Value (c .quotient .ensures)
-    ∙ value-is (a .negative) (a .whole .now) (a .fraction .now) (c .before .before .before .if1 .left) (a .digits) (c .before .before .before .before .before .before .pre) (sym (c .before .before .too-long .ensures) ∙ c .before .if2 .left)
+    ∙ value-is (a .negative) (a .whole .now) (a .fraction .now) (c .before .before .before .if1 .left) (all-of-both (a .whole .now) (a .fraction .now) (c .before .before .before .before .before .before .pre .before) (c .before .before .before .before .before .before .pre .behind)) (a .digits) (c .before .before .before .before .before .before .pre .digits) (sym (c .before .before .too-long .ensures) ∙ c .before .if2 .left)
 
 pub of-digits-spec : {M : Type 1} → statement M
 of-digits-spec =

@@ -3,8 +3,8 @@ use mathlib.Core.Path.{sym, _∙_}
 use Prim.Native.Nat.{_+_, _^_}
 use native.Mathlib.Omega.{arith}
 use lib.Seq.{length-take-le}
-use Rattle.numeral.proofs.Bytes.{count-le, rest}
 use Rattle.numeral.specs.Digits.{isDigit}
+use Rattle.numeral.proofs.Bytes.{count-le, rest}
 use Rattle.numeral.proofs.Digits.{count-is, number-le}
 use Rattle.numeral.proofs.Outcomes.{alone, no-point, other-than-point, parted, other-behind, both-parts}
 use borrow.Author.Needs.{needs}
@@ -29,15 +29,16 @@ part-of-digits-end c = search needs
 
 of-digits-requires : tie.Need-of-digits-requires
 of-digits-requires c κs =
-    let a = c .before .before .before .before .args in
+    let t = c .before .before .before .before .args .text .now in
     let before = c .before .before .leading-digits in
-    alone (a .negative) (a .text .now) (before .result) (before .ensures) _ (c .before .if1 .taken) (rest (before .result .count) (a .text .now))
+    alone t (before .result) (before .ensures) _ (c .before .if1 .taken) (rest (before .result .count) t)
 
 returns : tie.Need-returns
 returns c =
     let a = c .before .before .before .before .before .args in
+    let t = a .text .now in
     let before = c .before .before .before .leading-digits in
-    c .of-digits .ensures ∙ no-point (a .negative) (a .text .now) (before .result) (before .ensures) _ (c .before .before .if1 .taken) (rest (before .result .count) (a .text .now))
+    c .of-digits .ensures ∙ no-point (a .negative) t (before .result .count) (count-is 0 (10 ^ 15) t (before .result) (before .ensures)) _ (c .before .before .if1 .taken) (rest (before .result .count) t)
 
 shared-slice-read-if2 : tie.Need-shared-slice-read-if2
 shared-slice-read-if2 c = search needs
@@ -45,8 +46,9 @@ shared-slice-read-if2 c = search needs
 returns-2 : tie.Need-returns-2
 returns-2 c =
     let a = c .before .before .before .before .before .args in
+    let t = a .text .now in
     let before = c .before .before .before .leading-digits in
-    other-than-point (a .negative) (a .text .now) (before .result) (before .ensures) (c .before .before .if1 .left) (c .if2 .taken)
+    other-than-point (a .negative) t (before .result .count) (count-is 0 (10 ^ 15) t (before .result) (before .ensures)) (c .before .before .if1 .left) (c .if2 .taken)
 
 add-from : tie.Need-add-from
 add-from c = search needs
@@ -66,25 +68,29 @@ leading-digits-requires-2 c κs = (number-le 0 (10 ^ 15) _ (c .before .before .b
 returns-3 : tie.Need-returns-3
 returns-3 c =
     let a = c .before .before .before .before .before .before .before .before .before .args in
+    let t = a .text .now in
     let before = c .before .before .before .before .before .before .before .leading-digits in
     let both = c .before .before .leading-digits2 in
-    other-behind (a .negative) (a .text .now) (before .result) (before .ensures) _ (c .before .before .before .before .before .before .if1 .left) (c .before .before .before .before .if2 .left) (rest (before .result .count + 1) (a .text .now)) (both .result) (both .ensures) (c .if3 .taken)
+    other-behind (a .negative) t (before .result .count) (count-is 0 (10 ^ 15) t (before .result) (before .ensures)) _ (c .before .before .before .before .before .before .if1 .left) (c .before .before .before .before .if2 .left) (rest (before .result .count + 1) t)
+    (both .result .count) (count-is (before .result .number) (10 ^ 15) _ (both .result) (both .ensures)) (c .if3 .taken)
 
 slice-aggregate-of-digits : tie.Need-slice-aggregate-of-digits
 slice-aggregate-of-digits c = sym (length-take-le _ _ (omega arith))
 
 of-digits-requires-2 : tie.Need-of-digits-requires-2
 of-digits-requires-2 c κs =
-    let a = c .before .before .before .before .before .before .before .before .before .before .args in
+    let t = c .before .before .before .before .before .before .before .before .before .before .args .text .now in
     let before = c .before .before .before .before .before .before .before .before .leading-digits in
     let both = c .before .before .before .leading-digits2 in
-    both-parts (a .negative) (a .text .now) (before .result) (before .ensures) _ (c .before .before .before .before .before .before .before .if1 .left) (c .before .before .before .before .before .if2 .left) (rest (before .result .count + 1) (a .text .now)) (both .result) (both .ensures) (c .before .if3 .left)
+    both-parts t (before .result) (before .ensures) _ (both .result) (both .ensures) (c .before .if3 .left)
 
 returns-4 : tie.Need-returns-4
 returns-4 c =
     let a = c .before .before .before .before .before .before .before .before .before .before .before .args in
+    let t = a .text .now in
     let before = c .before .before .before .before .before .before .before .before .before .leading-digits in
-    c .of-digits2 .ensures ∙ parted (a .negative) (a .text .now) (before .result) (before .ensures) _ (c .before .before .before .before .before .before .before .before .if1 .left) (c .before .before .before .before .before .before .if2 .left) (rest (before .result .count + 1) (a .text .now))
+    c .of-digits2 .ensures
+    ∙ parted (a .negative) t (before .result .count) (count-is 0 (10 ^ 15) t (before .result) (before .ensures)) _ (c .before .before .before .before .before .before .before .before .if1 .left) (c .before .before .before .before .before .before .if2 .left) (rest (before .result .count + 1) t)
 
 pub unsigned-decimal-spec : {M : Type 1} → statement M
 unsigned-decimal-spec =

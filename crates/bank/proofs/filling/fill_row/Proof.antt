@@ -1,0 +1,142 @@
+-- `bank::filling::fill_row` meets its contract: at each field what is to be stored is that of the fields from there on. Assumes nothing.
+use mathlib.Core.Path.{_≡_, sym, ap, _∙_, subst}
+use mathlib.Core.Logic.{⊎-elim}
+use mathlib.Core.List.{List, [], _∷_}
+use Prim.Native.Nat.{ℕ, zero, suc, _≤_, _+_}
+use native.Mathlib.Nat.{not-suc-le-zero}
+use native.Mathlib.Omega.{arith}
+use borrow.Author.Needs.{needs}
+use lib.Ieee.{Float}
+use lib.ListN.{length, take, drop}
+use lib.Seq.{length-take-le, drop-nil}
+use Rattle.text.specs.Fields.{fields}
+use Rattle.text.proofs.Laws.{find-le}
+use Rattle.text.proofs.Walk.{part-length, field-last, field-next, drop-more}
+use Rattle.numeral.specs.Spelling.{decimalOf}
+use Rattle.bank.specs.Fill.{decimalValue, decimalsOf}
+use Rattle.bank.proofs.Stores.{Storing, storing-begins, storing-same, storing-next, storing-ends}
+use Rattle.bank.proofs.filling.fill_row.Statement.{statement}
+use Rattle.bank.proofs.filling.fill_row.Tie as tie
+
+-- the values of the fields after the first k
+abbrev values : List ℕ → ℕ → List Float
+values s k = decimalsOf (drop k (fields s))
+
+abbrev Inv-loop : tie.InvT-loop
+Inv-loop line skip signals₀ from rest₀ left₀ at₀ signals rest left at =
+    (length rest ≤ length line) × Storing (values line skip) signals₀ from signals at (values rest left)
+
+abbrev μ-loop : tie.MeasureT-loop
+μ-loop line skip signals₀ from rest₀ left₀ at₀ signals rest left at = length rest
+
+loop-holds : tie.Need-loop-holds Inv-loop μ-loop
+loop-holds c = (omega arith, storing-begins (values (c .before .before .args .line .now) (c .before .before .args .skip)) (c .before .before .args .signals .now) (c .before .before .args .from) (c .before .before .pre))
+
+find-requires : tie.Need-find-requires Inv-loop μ-loop
+find-requires c κs = search needs
+
+sub-left : tie.Need-sub-left Inv-loop μ-loop
+sub-left c = search needs
+
+slice-aggregate-decimal-value : tie.Need-slice-aggregate-decimal-value Inv-loop μ-loop
+slice-aggregate-decimal-value c =
+    let s = c .before .before .before .before .loop .rest .now in
+    let n = c .before .before .before .find in
+    let h : n .result ≤ length s = omega (arith, find-le 44 s) in
+    sym (length-take-le (n .result) s h)
+
+decimal-value-requires : tie.Need-decimal-value-requires Inv-loop μ-loop
+decimal-value-requires c κs = search needs
+
+put-decimal-requires : tie.Need-put-decimal-requires Inv-loop μ-loop
+put-decimal-requires c κs = search needs
+
+-- the value of the field that is next
+first-decimal : (k k' : ℕ) (f : List ℕ) (fs : List (List ℕ)) (v : Float) → k ≤ 0 → k' ≡ k → v ≡ decimalValue (decimalOf f)
+    → decimalsOf (drop k (f ∷ fs)) ≡ v ∷ decimalsOf (drop k' fs)
+first-decimal zero k' f fs v h e d =
+    ap (λ (x : Float). x ∷ decimalsOf fs) (sym d) ∙ ap (λ (n : ℕ). v ∷ decimalsOf (drop n fs)) (sym e)
+first-decimal (suc k) k' f fs v h e d = absurd (not-suc-le-zero h)
+
+-- past a field what is to be stored is that of the fields after it
+passed : (c : tie.Joined1 Inv-loop μ-loop) (fs : List (List ℕ)) → fields (c .before .before .loop .rest .now) ≡ take (c .before .find .result) (c .before .before .loop .rest .now) ∷ fs
+    → Storing (values (c .before .before .before .before .before .args .line .now) (c .before .before .before .before .before .args .skip)) (c .before .before .before .before .before .args .signals .now) (c .before .before .before .before .before .args .from) (c .if1 .signals) (c .if1 .at) (decimalsOf (drop (c .if1 .left) fs))
+passed c fs e =
+    let a = c .before .before .before .before .before .args in
+    let l = c .before .before .loop in
+    let f = take (c .before .find .result) (l .rest .now) in
+    let all = values (a .line .now) (a .skip) in
+    let opened : Storing all (a .signals .now) (a .from) (l .signals) (l .at) (decimalsOf (drop (l .left) (f ∷ fs))) =
+    subst (λ (r : List (List ℕ)). Storing all (a .signals .now) (a .from) (l .signals) (l .at) (decimalsOf (drop (l .left) r))) e (l .inv .1) in
+    let left = decimalsOf (drop (c .if1 .left) fs) in
+    ⊎-elim
+    (λ w.
+    storing-same all (a .signals .now) (a .from) (l .signals) (l .at) (c .if1 .signals) (c .if1 .at) (decimalsOf (drop (l .left) (f ∷ fs))) left (w .1) (w .3)
+    (ap decimalsOf (drop-more (l .left) f fs (w .0 .taken) ∙ ap (λ (k : ℕ). drop k fs) (sym (w .2))))
+    opened)
+    (λ w.
+    storing-next all (a .signals .now) (a .from) (l .signals) (l .at) (c .if1 .signals) (c .if1 .at) (w .3 .result) left (w .7 ∙ w .4 .ensures .1) (w .9 ∙ w .4 .ensures .0)
+    (subst (λ (r : List Float). Storing all (a .signals .now) (a .from) (l .signals) (l .at) r)
+    (first-decimal (l .left) (c .if1 .left) f fs (w .3 .result) (w .0 .left) (w .8) (w .3 .ensures))
+    opened))
+    (c .if1 .came)
+
+same-length : tie.Need-same-length Inv-loop μ-loop
+same-length c =
+    let l = c .before .before .before .loop in
+    let n = c .before .before .find in
+    passed (c .before) [] (field-last (l .rest .now) (n .result) (n .ensures) (c .if2 .taken)) .0
+
+returns : tie.Need-returns Inv-loop μ-loop
+returns c =
+    let a = c .before .before .before .before .before .before .args in
+    let l = c .before .before .before .loop in
+    let n = c .before .before .find in
+    let done = passed (c .before) [] (field-last (l .rest .now) (n .result) (n .ensures) (c .if2 .taken)) in
+    storing-ends (values (a .line .now) (a .skip)) (a .signals .now) (a .from) (c .before .if1 .signals) (c .before .if1 .at)
+    (subst (λ (r : List (List ℕ)). Storing (values (a .line .now) (a .skip)) (a .signals .now) (a .from) (c .before .if1 .signals) (c .before .if1 .at) (decimalsOf r)) (drop-nil (c .before .if1 .left)) done)
+
+add-next : tie.Need-add-next Inv-loop μ-loop
+add-next c = search needs
+
+sub-rest : tie.Need-sub-rest Inv-loop μ-loop
+sub-rest c = search needs
+
+part-rest-start : tie.Need-part-rest-start Inv-loop μ-loop
+part-rest-start c = search needs
+
+part-rest-end : tie.Need-part-rest-end Inv-loop μ-loop
+part-rest-end c = search needs
+
+loop-less : tie.Need-loop-less Inv-loop μ-loop
+loop-less c =
+    let s = c .before .before .before .before .loop .rest .now in
+    let n = c .before .before .before .find .result in
+    omega (arith, part-length (n + 1) s, c .before .if2 .left)
+
+loop-again : tie.Need-loop-again Inv-loop μ-loop
+loop-again c =
+    let s = c .before .before .before .before .loop .rest .now in
+    let n = c .before .before .before .find in
+    (omega (arith, part-length (n .result + 1) s, c .before .if2 .left), passed (c .before .before) _ (field-next s (n .result) (n .ensures) (c .before .if2 .left)))
+
+pub fill-row-spec : {M : Type 1} → statement M
+fill-row-spec =
+    tie.close
+    (tie.spec
+    Inv-loop
+    μ-loop
+    loop-holds
+    find-requires
+    sub-left
+    slice-aggregate-decimal-value
+    decimal-value-requires
+    put-decimal-requires
+    same-length
+    returns
+    add-next
+    sub-rest
+    part-rest-start
+    part-rest-end
+    loop-less
+    loop-again)

@@ -1,0 +1,52 @@
+// Two sums over words: of the words, and of the sums up to each word, which tells their places apart.
+use crate::column;
+use std::num::wrapping_add_u64;
+
+pub struct Sums {
+    pub first: u64,
+    pub second: u64,
+}
+
+impl Sums {
+    pub fn new() -> Self {
+        Sums {
+            first: 0,
+            second: 0,
+        }
+    }
+
+    pub fn and_whole_numbers(self, words: &[u32]) -> Self {
+        let mut first = self.first;
+        let mut second = self.second;
+        let mut at = 0usize;
+        while at < words.len() {
+            first = wrapping_add_u64(first, wide(words[at]));
+            second = wrapping_add_u64(second, first);
+            at += 1;
+        }
+        Sums { first, second }
+    }
+
+    pub fn and_floats(self, words: &[f64]) -> Self {
+        let mut first = self.first;
+        let mut second = self.second;
+        let mut at = 0usize;
+        while at < words.len() {
+            first = wrapping_add_u64(first, float::bits(words[at]));
+            second = wrapping_add_u64(second, first);
+            at += 1;
+        }
+        Sums { first, second }
+    }
+
+    // Whether these are the sums of two columns of a case.
+    pub fn are(self, first: &[u8], second: &[u8]) -> bool {
+        let ours = column::of_value(self.first);
+        let all = column::of_value(self.second);
+        ours.is(first) && all.is(second)
+    }
+}
+
+fn wide(n: u32) -> u64 {
+    n as u64
+}

@@ -1,0 +1,161 @@
+//! One case: a bank's text or a model, the rules' answer to it and the unchanged Rust's. Where the
+//! two have to agree and do not, making the case panics.
+use crate::alone::Reason;
+use crate::bank::{self, Bank, Refusal};
+use crate::lent::{Buffers, Room};
+use crate::model::{Model, Sample};
+use crate::unchanged;
+use numbers::case::{hex, Column, NO_ANSWER};
+use oracle::refusals;
+
+#[derive(Clone, Copy, Debug, PartialEq, Eq, Hash)]
+pub enum Kind {
+    /// A bank, with the room that is lent for it.
+    Bank(Room),
+    Model,
+}
+
+#[derive(Clone, Debug, PartialEq, Eq, Hash)]
+pub struct Case {
+    pub kind: Kind,
+    /// Of a bank the answer, the two sums and the Rust's answer; of a model what is expected and
+    /// what is sampled, each by the rules and then by the Rust.
+    pub columns: [Column; 4],
+    /// The bank's text, or the model's words as hex digits.
+    pub text: Vec<u8>,
+}
+
+impl Case {
+    pub fn bank(text: &[u8], room: Room) -> Case {
+        let ours = bank::read(text, room);
+        let rust = unchanged::bank(text);
+        assert_agreement(text, &ours, &rust);
+        let mut buffers = Buffers::lent(room);
+        if let Ok(bank) = &ours {
+            buffers.hold(bank);
+        }
+        let [first, second] = buffers.sums().map(hex);
+        let answer = ours.as_ref().map_or_else(refused, size);
+        let rust = rust.as_ref().map_or(NO_ANSWER, size);
+        Case {
+            kind: Kind::Bank(room),
+            columns: [answer, first, second, rust],
+            text: text.to_vec(),
+        }
+    }
+
+    pub fn model(model: &Model) -> Case {
+        let expected = model.expected();
+        let sample = model.sample();
+        let rust_expected = expected.map(|_| unchanged::expected(model));
+        let rust_sample = sample.map(|_| unchanged::sample(model));
+        assert_eq!(expected, rust_expected, "{model:x?}");
+        assert_eq!(sample, rust_sample, "{model:x?}");
+        Case {
+            kind: Kind::Model,
+            columns: [
+                expected.map_or_else(refused_without_row, hex),
+                sample.map_or_else(refused_without_row, both),
+                rust_expected.map_or(NO_ANSWER, hex),
+                rust_sample.map_or(NO_ANSWER, both),
+            ],
+            text: model.words().iter().flat_map(|&word| hex(word)).collect(),
+        }
+    }
+
+    /// The refusal's number that a column holds: of a bank's answer before the row, else at the end.
+    pub fn refusal(&self, column: usize) -> Option<u8> {
+        let column = self.columns[column];
+        let at = match self.kind {
+            Kind::Bank(_) => 6,
+            Kind::Model => 14,
+        };
+        let digits = std::str::from_utf8(&column[at..at + 2]).ok()?;
+        digits.parse().ok().filter(|_| column[0] == b'-')
+    }
+}
+
+/// What both read is equal to the last bit. What the rules refuse and the Rust reads has a listed
+/// reason. What has none the Rust refuses too, with the same number and row.
+fn assert_agreement(text: &[u8], ours: &Result<Bank, Refusal>, rust: &Result<Bank, String>) {
+    let agree = match (ours, rust) {
+        (Ok(bank), Ok(same)) => bank == same,
+        (Ok(_), Err(_)) => false,
+        (Err(refusal), Ok(_)) => Reason::of(refusal).is_some(),
+        (Err(refusal), Err(error)) => {
+            let number_and_row = (u32::from(refusal.number), refusal.row as u32);
+            Reason::of(refusal).is_some() || refusals::of_text(error) == number_and_row
+        }
+    };
+    let text = text.escape_ascii();
+    assert!(agree, "bank {text}: {ours:x?} {rust:x?}");
+}
+
+/// Depth and rounds.
+fn size(bank: &Bank) -> Column {
+    hex(u64::from(bank.depth) << 32 | bank.commits.len() as u64)
+}
+
+/// Six dashes, the refusal's number and its row.
+fn refused(refusal: &Refusal) -> Column {
+    column(&format!("------{:02}{:08}", refusal.number, refusal.row))
+}
+
+/// 14 dashes and the refusal's number.
+fn refused_without_row(number: u8) -> Column {
+    column(&format!("--------------{number:02}"))
+}
+
+/// Commits and draws used.
+fn both(sample: Sample) -> Column {
+    hex(u64::from(sample.commits) << 32 | sample.used as u64)
+}
+
+fn column(text: &str) -> Column {
+    text.as_bytes().try_into().expect("a column of 16 bytes")
+}
+
+#[cfg(test)]
+mod tests {
+    use super::*;
+    use crate::model::Kind::Constant;
+
+    #[test]
+    fn columns_of_a_bank() {
+        let room = Room::exactly(1, 1);
+        let read = Case::bank(b"commits,a\n7,0.5\n", room);
+        assert_eq!(&read.columns[0], b"0000000100000001");
+        assert_eq!(read.columns[3], read.columns[0]);
+        // 7, the signal 0.5, and the curve: 0.0 and 1.0
+        let [half, one] = [0.5f64, 1.0].map(f64::to_bits);
+        let sums = [7, 7 + half, 7 + half, 7 + half + one];
+        assert_eq!(read.columns[1], hex(sums[3]));
+        let all = sums.into_iter().fold(0, u64::wrapping_add);
+        assert_eq!(read.columns[2], hex(all));
+        let refused = Case::bank(b"commits,a\n7,nan\n", room);
+        assert_eq!(&refused.columns[0], b"------0600000002");
+        assert_eq!(&refused.columns[3], b"0000000100000001");
+        assert_eq!(refused.refusal(0), Some(6));
+        let untouched = 0xDEAD_BEEF + 3 * 42.0f64.to_bits();
+        assert_eq!(refused.columns[1], hex(untouched));
+        assert_eq!(Case::bank(b"\xff", room).columns[3], NO_ANSWER);
+    }
+
+    #[test]
+    fn columns_of_a_model() {
+        let model = Model {
+            kind: Constant,
+            alpha: 0.5f64.to_bits(),
+            gamma: 2,
+            positions: vec![],
+            draws: vec![0],
+        };
+        let case = Case::model(&model);
+        assert_eq!(&case.columns[0], b"3fe8000000000000");
+        assert_eq!(&case.columns[1], b"--------------13");
+        assert_eq!(case.columns[2], case.columns[0]);
+        assert_eq!(case.columns[3], NO_ANSWER);
+        assert_eq!((case.refusal(0), case.refusal(1)), (None, Some(13)));
+        assert_eq!(case.text.len(), 6 * 16);
+    }
+}

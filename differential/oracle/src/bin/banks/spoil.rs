@@ -1,0 +1,52 @@
+//! Copies of cases with a wrong column: a replay has to count every one of them.
+use crate::case::{Case, Kind};
+use numbers::case::NO_ANSWER;
+
+/// The case with the last digit of one of its columns changed, of the columns that a replay compares
+/// the one whose turn it is.
+pub fn spoiled((turn, mut case): (usize, Case)) -> Case {
+    let compared = compared(&case);
+    let column = compared[turn % compared.len()];
+    let digit = &mut case.columns[column][15];
+    *digit = with_lowest_bit_turned(*digit);
+    case
+}
+
+/// A replay compares all that the rules say, and what the Rust says where both read.
+fn compared(case: &Case) -> Vec<usize> {
+    let says_the_rust: &[(usize, usize)] = match case.kind {
+        Kind::Bank(_) => &[(3, 0)],
+        Kind::Model => &[(2, 0), (3, 1)],
+    };
+    let is_compared = |column: &usize| {
+        let pair = says_the_rust.iter().find(|(rust, _)| rust == column);
+        pair.is_none_or(|&(rust, ours)| {
+            case.columns[rust] != NO_ANSWER && case.refusal(ours).is_none()
+        })
+    };
+    (0..4).filter(is_compared).collect()
+}
+
+/// A digit stays a digit, decimal or hexadecimal.
+fn with_lowest_bit_turned(digit: u8) -> u8 {
+    let value = (digit as char).to_digit(16).unwrap_or(0) ^ 1;
+    b"0123456789abcdef"[value as usize]
+}
+
+#[cfg(test)]
+mod tests {
+    use super::*;
+
+    #[test]
+    fn every_case_is_changed_in_one_digit_that_is_compared() {
+        for (turn, case) in crate::sample::recorded().into_iter().enumerate() {
+            let changed = spoiled((turn, case.clone()));
+            let before = case.columns.as_flattened();
+            let after = changed.columns.as_flattened();
+            let differing: Vec<_> = (0..64).filter(|&at| before[at] != after[at]).collect();
+            assert!(matches!(differing[..], [15 | 31 | 47 | 63]));
+            assert_ne!(before[differing[0]], b'-');
+            assert_eq!((changed.kind, changed.text), (case.kind, case.text));
+        }
+    }
+}
