@@ -123,6 +123,7 @@ lines-facts (header ∷ rows) commits signals curve depth rounds e =
     record {
       header = suc-le-suc zero-le;
       within = subst (λ (d : ℕ). d ≤ length names) (sym g) wide;
+      deep = subst (λ (d : ℕ). 0 < d) (sym g) (good .0);
       shallow = subst (λ (d : ℕ). d ≤ 64) (sym g) (good .1 .0);
       some = f .some;
       few = f .few;

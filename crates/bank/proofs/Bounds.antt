@@ -1,4 +1,4 @@
--- A bank that was read has 1 to 65,536 rounds, a depth of 1 to 64, and a curve that a plan takes: each entry is in 0..64, entry 0 is 0.0, and the curve never falls.
+-- A bank that was read has 1 to 65,536 rounds, a depth of 1 to 64, and a curve that a plan takes: each entry is in 0..64, entry 0 is 0.0, the curve never falls, and a draft of none has 0.0 accepted.
 -- Assumes nothing.
 use mathlib.Core.Path.{_≡_, refl, sym, ap, _∙_, subst}
 use mathlib.Core.Bool.{Bool, true, false, _&&_, _||_, cond}
@@ -22,9 +22,11 @@ use Rattle.text.specs.Lines.{lines}
 use Rattle.bank.specs.declared.Answer.the-variants.{Bank}
 use Rattle.bank.specs.Judge.{judged}
 use Rattle.bank.specs.Fill.{commitsOf, sumUpTo, bankRead}
-use Rattle.bank.specs.Acceptance.{mostAccepted}
+use Rattle.bank.specs.declared.Expected.the-variants.{Value}
+use Rattle.bank.specs.Acceptance.{mostAccepted, expectedAccepted}
 use Rattle.bank.proofs.Accepted.{accepted, commits-length}
 use Rattle.bank.proofs.Curve.{sum-small}
+use Rattle.bank.proofs.Lookups.{sizes-fit, in-the-range}
 use Rattle.bank.proofs.Places.{curve-placed}
 
 -- ---- a rounded quotient without a sign is clear
@@ -88,6 +90,15 @@ mean-in-range s n N h =
 
 -- ---- of a bank that was read
 
+above-zero : (n : ℕ) → 0 < n → n ≡ 0 → ⊥
+above-zero n h e = omega arith
+
+-- where an entry stands there is one
+some-entry : (c : List Float) → getD c 0 nan ≡ f0 → 0 < length c
+unfolding ofBits
+some-entry [] e = let z : _≡_ {A = ℕ} 0 1 = cc in omega arith
+some-entry (x ∷ c) e = zero-lt-suc (length c)
+
 sum-none : (commits : List ℕ) → sumUpTo 0 commits ≡ 0
 sum-none [] = refl
 sum-none (c ∷ commits) = let e : min c 0 ≡ 0 = omega arith in rw (e, sum-none commits)
@@ -104,8 +115,8 @@ module _ (text commits : List ℕ) (signals curve : List Float) (depth rounds : 
   pub rounds-bounded : (0 < rounds) × (rounds ≤ 65536)
   rounds-bounded = let a = accepted text (length commits) (length signals) (length curve) depth rounds e in (a .some, a .few)
 
-  pub depth-bounded : depth ≤ 64
-  depth-bounded = accepted text (length commits) (length signals) (length curve) depth rounds e .shallow
+  pub depth-bounded : (0 < depth) × (depth ≤ 64)
+  depth-bounded = let a = accepted text (length commits) (length signals) (length curve) depth rounds e in (a .deep, a .shallow)
 
   rows : List ℕ
   rows = commitsOf (drop 1 (lines text))
@@ -117,7 +128,7 @@ module _ (text commits : List ℕ) (signals curve : List Float) (depth rounds : 
   pub curve-in-range : (g : ℕ) → g ≤ depth → inRange f0 mostAccepted (getD (bankRead text commits signals curve .curve) g nan) ≡ true
   unfolding rows
   curve-in-range g h =
-      let small : sumUpTo g rows ≤ rounds * 64 = le-trans (sum-small g rows) (le-trans (le-of-eq (ap (λ (n : ℕ). n * g) rows-length)) (mul-le-mul-left rounds (le-trans h depth-bounded))) in
+      let small : sumUpTo g rows ≤ rounds * 64 = le-trans (sum-small g rows) (le-trans (le-of-eq (ap (λ (n : ℕ). n * g) rows-length)) (mul-le-mul-left rounds (le-trans h (depth-bounded .1)))) in
       ap (inRange f0 mostAccepted) (curve-placed text commits signals curve depth rounds e g nan h) ∙ mean-in-range (sumUpTo g rows) rounds (rounds-bounded .0) small
 
   pub curve-starts : getD (bankRead text commits signals curve .curve) 0 nan ≡ f0
@@ -135,3 +146,12 @@ module _ (text commits : List ℕ) (signals curve : List Float) (depth rounds : 
       subst (λ (x : Float). T (le x (getD (bankRead text commits signals curve .curve) (g + 1) nan))) (sym (curve-placed text commits signals curve depth rounds e g nan before))
       (subst (λ (y : Float). T (le (round binary64 false (sumUpTo g rows) rounds) y)) (sym (curve-placed text commits signals curve depth rounds e (g + 1) nan h))
       (round-mono binary64 (sumUpTo g rows) rounds (sumUpTo (g + 1) rows) rounds n n k))
+
+  -- a draft of none is expected to have none accepted
+  pub expected-none : expectedAccepted (bankRead text commits signals curve .curve) depth 0 ≡ Value f0
+  expected-none =
+      let c = bankRead text commits signals curve .curve in
+      let some : depth ≡ 0 → ⊥ = λ z. above-zero depth (depth-bounded .0) z in
+      let none : 0 ≤ depth = omega arith in
+      let first : 0 ≡ min 0 depth = omega arith in
+      sym (in-the-range c depth 0 0 (sizes-fit depth 0 some (depth-bounded .1) (omega arith)) refl 0 first (some-entry c curve-starts) (curve-in-range 0 none)) ∙ ap Value curve-starts

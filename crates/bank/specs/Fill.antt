@@ -55,6 +55,7 @@ curveFrom g (suc n) commits = round binary64 false (sumUpTo g commits) (length c
 pub record Accepted (text : List (List ℕ)) (commits signals curve depth rounds : ℕ) : Type 0 where
   pub header : 0 < length text
   pub within : depth ≤ length (fields (getD text 0 []))
+  pub deep : 0 < depth
   pub shallow : depth ≤ 64
   pub some : 0 < rounds
   pub few : rounds ≤ 65536

@@ -1,5 +1,6 @@
 // Replays recorded answers: reads the case files that its arguments name, reads each case's bank or asks its model anew, and compares
-// answers and buffers by bits. A case is a line that starts with its kind and four columns of 16 bytes: trace.rt and model.rt say more.
+// answers and buffers by bits. A case is a line that starts with its kind and two or four columns of 16 bytes: trace.rt and model.rt say
+// more.
 mod column;
 mod model;
 mod sums;
@@ -12,10 +13,12 @@ use tally::Tally;
 ghost use Prim.Native.Nat.{_≤_};
 ghost use lib.ListN.{length};
 
-// A case without its text or its words. A model has at least five words, so no case is shorter than the first.
+// A case without its text or its words. A model has at least five words and a value four, so no case is shorter than the first.
 const BANK_COLUMNS: usize = 97;
 
 const MODEL_COLUMNS: usize = 77;
+
+const VALUE_COLUMNS: usize = 43;
 
 // As often as this the room is filled: a file of 16 TB.
 const FILLINGS: u64 = 67108864;
@@ -108,6 +111,9 @@ fn case_size(bytes: &[u8]) -> usize
     if bytes[0] == b'm' {
         return size_with(bytes, &bytes[70..75], MODEL_COLUMNS);
     }
+    if bytes[0] == b'a' {
+        return size_with(bytes, &bytes[36..41], VALUE_COLUMNS);
+    }
     0
 }
 
@@ -137,6 +143,9 @@ fn case_in(tally: Tally, case: &[u8]) -> Tally {
     }
     if case[0] == b'b' {
         return bank_in(tally, case);
+    }
+    if case[0] == b'a' {
+        return value_in(tally, case);
     }
     model_in(tally, case)
 }
@@ -170,4 +179,14 @@ fn model_in(tally: Tally, case: &[u8]) -> Tally
     tally
         .model(expected.is_value, sample.is_value)
         .judged(first && second)
+}
+
+// The columns are VALUE and RUST.
+fn value_in(tally: Tally, case: &[u8]) -> Tally
+    requires { ⌜ 97 ≤ length (now case) ⌝ }
+{
+    let end = case.len() - 1;
+    let value = model::value(&case[42..end]);
+    let agrees = value.agrees(&case[2..18], &case[19..35]);
+    tally.value().judged(agrees)
 }

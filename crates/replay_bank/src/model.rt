@@ -1,5 +1,6 @@
 // A case of an acceptance model: `m EXPECTED SAMPLE RUST RUST LENGTH WORDS`. The words, of sixteen hexadecimal digits each, are the
-// model's kind, alpha, gamma, the number of positions, the positions, the number of draws, the draws.
+// model's kind, alpha, gamma, the number of positions, the positions, the number of draws, the draws. And a case of the value of one of
+// its positions: `a VALUE RUST LENGTH WORDS`, where the position stands for gamma and no draws follow.
 use crate::column;
 use crate::column::Column;
 use crate::words;
@@ -25,6 +26,14 @@ pub fn run(text: &[u8]) -> Outcome {
     ask(text, &positions, count, &draws, drawn)
 }
 
+// The value of the position that the words describe, with the same room.
+pub fn value(text: &[u8]) -> Column {
+    let mut positions = [0.0f64; 128];
+    let count = count_at(text, 3);
+    words::floats(text, 4, count, &mut positions);
+    value_with(text, &positions, count)
+}
+
 // A list's length.
 fn count_at(text: &[u8], at: usize) -> usize
     ensures { λ r. ⌜ r ≤ 128 ⌝ }
@@ -41,6 +50,16 @@ fn ask(text: &[u8], positions: &[f64], count: usize, draws: &[f64], drawn: usize
     let model = model_of(words::at(text, 0), words::at(text, 1));
     let gamma = (words::at(text, 2) % 4294967296) as u32;
     answers(model, gamma, &positions[0..count], &draws[0..drawn])
+}
+
+// With so many of the positions.
+fn value_with(text: &[u8], positions: &[f64], count: usize) -> Column
+    requires { ⌜ count ≤ length (now positions) ⌝ }
+{
+    let model = model_of(words::at(text, 0), words::at(text, 1));
+    let d = words::at(text, 2) as usize;
+    let value = acceptance::a_d(model, &positions[0..count], d);
+    column::of_value(float::bits(value))
 }
 
 fn answers(model: AcceptanceModel, gamma: u32, positions: &[f64], draws: &[f64]) -> Outcome {

@@ -19,6 +19,7 @@ pub struct Values {
 pub struct Tally {
     pub banks: u64,
     pub models: u64,
+    pub values: u64,
     pub read: Split,
     pub expected: Values,
     pub sampled: Values,
@@ -98,6 +99,7 @@ impl Tally {
         Tally {
             banks: 0,
             models: 0,
+            values: 0,
             read: Split::new(),
             expected: Values::new(),
             sampled: Values::new(),
@@ -126,6 +128,12 @@ impl Tally {
         self
     }
 
+    // One value of a position more.
+    pub fn value(mut self) -> Self {
+        self.values = wrapping_add_u64(self.values, 1);
+        self
+    }
+
     // Whether the case is as the rules and the Rust have it.
     pub fn judged(mut self, agrees: bool) -> Self {
         if agrees {
@@ -136,9 +144,11 @@ impl Tally {
     }
 
     pub fn print(self) {
-        print_count(b"run ", wrapping_add_u64(self.banks, self.models));
+        let asked = wrapping_add_u64(self.models, self.values);
+        print_count(b"run ", wrapping_add_u64(self.banks, asked));
         print_count(b": banks ", self.banks);
         print_count(b", models ", self.models);
+        print_count(b", values ", self.values);
         self.read.print();
         self.expected.print(b"\nexpected values of both ");
         self.sampled.print(b"; samples of both ");

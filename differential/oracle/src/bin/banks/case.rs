@@ -1,5 +1,5 @@
-//! One case: a bank's text or a model, the rules' answer to it and the unchanged Rust's. Where the
-//! two have to agree and do not, making the case panics.
+//! One case: a bank's text, a model or a position of one, the rules' answer to it and the unchanged
+//! Rust's. Where the two have to agree and do not, making the case panics.
 use crate::alone::Reason;
 use crate::bank::{self, Bank, Refusal};
 use crate::lent::{Buffers, Room};
@@ -13,14 +13,20 @@ pub enum Kind {
     /// A bank, with the room that is lent for it.
     Bank(Room),
     Model,
+    /// The value of a position of a model.
+    Value,
 }
+
+/// How a NaN is written, whatever its sign and its payload.
+const NAN_BITS: u64 = 0x7ff8_0000_0000_0000;
 
 #[derive(Clone, Debug, PartialEq, Eq, Hash)]
 pub struct Case {
     pub kind: Kind,
     /// Of a bank the answer, the two sums and the Rust's answer; of a model what is expected and
-    /// what is sampled, each by the rules and then by the Rust.
-    pub columns: [Column; 4],
+    /// what is sampled, each by the rules and then by the Rust; of a position its value, by the rules
+    /// and by the Rust.
+    pub columns: Vec<Column>,
     /// The bank's text, or the model's words as hex digits.
     pub text: Vec<u8>,
 }
@@ -39,7 +45,7 @@ impl Case {
         let rust = rust.as_ref().map_or(NO_ANSWER, size);
         Case {
             kind: Kind::Bank(room),
-            columns: [answer, first, second, rust],
+            columns: vec![answer, first, second, rust],
             text: text.to_vec(),
         }
     }
@@ -53,13 +59,25 @@ impl Case {
         assert_eq!(sample, rust_sample, "{model:x?}");
         Case {
             kind: Kind::Model,
-            columns: [
+            columns: vec![
                 expected.map_or_else(refused_without_row, hex),
                 sample.map_or_else(refused_without_row, both),
                 rust_expected.map_or(NO_ANSWER, hex),
                 rust_sample.map_or(NO_ANSWER, both),
             ],
-            text: model.words().iter().flat_map(|&word| hex(word)).collect(),
+            text: digits(&model.words()),
+        }
+    }
+
+    /// The value of a position: of any model, in range or not.
+    pub fn value(model: &Model, position: u64) -> Case {
+        let place = usize::try_from(position).expect("a position of 64 bits");
+        let [ours, rust] = [model.value(place), unchanged::value(model, place)].map(with_one_nan);
+        assert_eq!(ours, rust, "{position} of {model:x?}");
+        Case {
+            kind: Kind::Value,
+            columns: vec![hex(ours), hex(rust)],
+            text: digits(&model.words_with(position)),
         }
     }
 
@@ -68,7 +86,7 @@ impl Case {
         let column = self.columns[column];
         let at = match self.kind {
             Kind::Bank(_) => 6,
-            Kind::Model => 14,
+            Kind::Model | Kind::Value => 14,
         };
         let digits = std::str::from_utf8(&column[at..at + 2]).ok()?;
         digits.parse().ok().filter(|_| column[0] == b'-')
@@ -111,6 +129,20 @@ fn both(sample: Sample) -> Column {
     hex(u64::from(sample.commits) << 32 | sample.used as u64)
 }
 
+/// The words as hex digits.
+fn digits(words: &[u64]) -> Vec<u8> {
+    words.iter().flat_map(|&word| hex(word)).collect()
+}
+
+/// Bits of a float, where every NaN has the same.
+fn with_one_nan(bits: u64) -> u64 {
+    if f64::from_bits(bits).is_nan() {
+        NAN_BITS
+    } else {
+        bits
+    }
+}
+
 fn column(text: &str) -> Column {
     text.as_bytes().try_into().expect("a column of 16 bytes")
 }
@@ -118,7 +150,7 @@ fn column(text: &str) -> Column {
 #[cfg(test)]
 mod tests {
     use super::*;
-    use crate::model::Kind::Constant;
+    use crate::model::Kind::{Constant, PerPosition, Trace};
 
     #[test]
     fn columns_of_a_bank() {
@@ -157,5 +189,29 @@ mod tests {
         assert_eq!(case.columns[3], NO_ANSWER);
         assert_eq!((case.refusal(0), case.refusal(1)), (None, Some(13)));
         assert_eq!(case.text.len(), 6 * 16);
+    }
+
+    #[test]
+    fn columns_of_a_position() {
+        let minus_zero = (-0.0f64).to_bits();
+        let of = |kind, position| {
+            let model = Model {
+                kind,
+                alpha: u64::MAX,
+                gamma: 0,
+                positions: vec![minus_zero, 7],
+                draws: vec![],
+            };
+            let case = Case::value(&model, position);
+            assert_eq!(case.columns[0], case.columns[1]);
+            assert_eq!((case.columns.len(), case.text.len()), (2, 6 * 16));
+            case.columns[0]
+        };
+        assert_eq!(of(Constant, 0), hex(NAN_BITS));
+        assert_eq!(of(PerPosition, 0), hex(minus_zero));
+        assert_eq!(of(PerPosition, 1), hex(7));
+        assert_eq!(of(PerPosition, 2), hex(0));
+        assert_eq!(of(PerPosition, u64::MAX), hex(0));
+        assert_eq!(of(Trace, 0), hex(0));
     }
 }

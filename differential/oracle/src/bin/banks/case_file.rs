@@ -12,8 +12,8 @@ use std::io::{self, BufWriter, Write};
 /// to hold a whole case.
 pub const LONGEST_TEXT: usize = 200_000;
 
-/// Bytes of a line before what follows its four columns.
-const COLUMNS: usize = 70;
+/// Bytes of a column, its space included.
+const COLUMN: usize = 17;
 /// Digits of each of the three rooms, and of the lengths.
 const ROOM: usize = 5;
 const BANK_LENGTH: usize = 7;
@@ -58,18 +58,11 @@ pub fn line(case: &Case) -> Vec<u8> {
     let (kind, sizes) = match case.kind {
         Kind::Bank(room) => (b'b', format!("{} {length:0BANK_LENGTH$}", rooms(room))),
         Kind::Model => (b'm', format!("{length:0MODEL_LENGTH$}")),
+        Kind::Value => (b'a', format!("{length:0MODEL_LENGTH$}")),
     };
-    let [first, second, third, fourth] = &case.columns;
-    let columns: [&[u8]; 7] = [
-        &[kind],
-        first,
-        second,
-        third,
-        fourth,
-        sizes.as_bytes(),
-        &case.text,
-    ];
-    let mut line = columns.join(&b' ');
+    let columns = case.columns.join(&b' ');
+    let parts: [&[u8]; 4] = [&[kind], &columns, sizes.as_bytes(), &case.text];
+    let mut line = parts.join(&b' ');
     line.push(b'\n');
     line
 }
@@ -82,21 +75,22 @@ fn rooms(room: Room) -> String {
 
 /// The first case of the bytes, and what follows it.
 fn split_case(bytes: &[u8]) -> Option<(Case, &[u8])> {
-    let (head, mut rest) = bytes.split_at_checked(COLUMNS)?;
-    let column = |at: usize| -> Option<Column> { head[2 + 17 * at..][..16].try_into().ok() };
-    let columns = [column(0)?, column(1)?, column(2)?, column(3)?];
-    let kind = match head[0] {
+    let (letter, mut rest) = bytes.split_first()?;
+    rest = rest.strip_prefix(b" ")?;
+    let columns = columns(&mut rest, if *letter == b'a' { 2 } else { 4 })?;
+    let kind = match letter {
         b'b' => Kind::Bank(Room {
             commits: number(&mut rest, ROOM)?,
             signals: number(&mut rest, ROOM)?,
             curve: number(&mut rest, ROOM)?,
         }),
         b'm' => Kind::Model,
+        b'a' => Kind::Value,
         _ => return None,
     };
     let digits = match kind {
         Kind::Bank(_) => BANK_LENGTH,
-        Kind::Model => MODEL_LENGTH,
+        Kind::Model | Kind::Value => MODEL_LENGTH,
     };
     let length = number(&mut rest, digits)?;
     let (text, after) = rest.split_at_checked(length)?;
@@ -106,6 +100,14 @@ fn split_case(bytes: &[u8]) -> Option<(Case, &[u8])> {
         text: text.to_vec(),
     };
     Some((case, after.strip_prefix(b"\n")?))
+}
+
+/// So many columns; the rest then starts behind them and a space.
+fn columns(rest: &mut &[u8], count: usize) -> Option<Vec<Column>> {
+    let (columns, after) = rest.split_at_checked(COLUMN * count)?;
+    *rest = after;
+    let column = |bytes: &[u8]| bytes.strip_suffix(b" ")?.try_into().ok();
+    columns.chunks(COLUMN).map(column).collect()
 }
 
 /// The number that so many digits spell; the rest then starts behind them and a space.
@@ -124,19 +126,25 @@ mod tests {
         Case::bank(text, Room::exactly(1, 1))
     }
 
-    fn model() -> Case {
-        Case::model(&Model {
+    fn model() -> Model {
+        Model {
             kind: Trace,
             alpha: 0,
             gamma: 1,
             positions: vec![0],
             draws: vec![0, u64::MAX],
-        })
+        }
     }
 
     #[test]
     fn a_line_is_read_as_it_was_written() {
-        let cases = [bank(b""), bank(b"commits,a\n1,2\n\r"), model(), bank(b"\n")];
+        let cases = [
+            bank(b""),
+            bank(b"commits,a\n1,2\n\r"),
+            Case::model(&model()),
+            Case::value(&model(), u64::MAX),
+            bank(b"\n"),
+        ];
         for case in cases {
             let both = [line(&case), line(&case)].concat();
             let (read, after) = split_case(&both).unwrap();
@@ -150,8 +158,11 @@ mod tests {
         let written = line(&bank(b"commits,a\n1,2\n"));
         let sizes = b" 00001 00001 00002 0000014 commits,a\n1,2\n\n";
         assert_eq!((written[0], &written[69..]), (b'b', &sizes[..]));
-        let written = line(&model());
+        let written = line(&Case::model(&model()));
         assert_eq!((written[0], &written[69..76]), (b'm', &b" 00128 "[..]));
         assert_eq!(written.len(), 77 + 128);
+        let written = line(&Case::value(&model(), 1));
+        assert_eq!((written[0], &written[35..42]), (b'a', &b" 00080 "[..]));
+        assert_eq!(written.len(), 43 + 80);
     }
 }

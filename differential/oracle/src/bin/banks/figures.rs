@@ -10,6 +10,7 @@ use std::fmt::{self, Display};
 pub struct Figures {
     banks: usize,
     models: usize,
+    values: usize,
     read_by_both: usize,
     refused_by_both: usize,
     /// Banks read by the Rust and refused by the rules.
@@ -25,6 +26,7 @@ impl Figures {
         match case.kind {
             Kind::Bank(_) => self.count_bank(case),
             Kind::Model => self.count_model(case),
+            Kind::Value => self.values += 1,
         }
     }
 
@@ -76,11 +78,11 @@ fn listed<Key: Display>(counts: &BTreeMap<Key, usize>) -> String {
 
 impl fmt::Display for Figures {
     fn fmt(&self, f: &mut fmt::Formatter<'_>) -> fmt::Result {
-        let all = self.banks + self.models;
+        let all = self.banks + self.models + self.values;
         writeln!(
             f,
-            "cases {all}: banks {}, models {}",
-            self.banks, self.models
+            "cases {all}: banks {}, models {}, values {}",
+            self.banks, self.models, self.values
         )?;
         write!(f, "banks read by both {}", self.read_by_both)?;
         writeln!(f, ", refused by both {}", self.refused_by_both)?;

@@ -1,5 +1,5 @@
-//! Writes files of cases of trace banks and of acceptance models, answered by the rules and by the
-//! unchanged Rust.
+//! Writes files of cases of trace banks, of acceptance models and of their positions' values, answered
+//! by the rules and by the unchanged Rust.
 mod alone;
 mod bank;
 mod bank_texts;
@@ -13,6 +13,7 @@ mod random;
 mod sample;
 mod spoil;
 mod unchanged;
+mod values;
 
 use case::Case;
 use std::process::ExitCode;

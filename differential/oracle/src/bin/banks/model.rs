@@ -90,15 +90,16 @@ impl Model {
 
     /// What a case writes of it.
     pub fn words(&self) -> Vec<u64> {
-        let positions = self.positions.len() as u64;
-        let head = [
-            self.kind as u64,
-            self.alpha,
-            u64::from(self.gamma),
-            positions,
-        ];
+        let words = self.words_with(u64::from(self.gamma));
         let draws = [self.draws.len() as u64];
-        [&head, &self.positions[..], &draws, &self.draws].concat()
+        [&words[..], &draws, &self.draws].concat()
+    }
+
+    /// What a case writes that asks it with one number alone: gamma, or a position.
+    pub fn words_with(&self, number: u64) -> Vec<u64> {
+        let positions = self.positions.len() as u64;
+        let head = [self.kind as u64, self.alpha, number, positions];
+        [&head, &self.positions[..]].concat()
     }
 }
 

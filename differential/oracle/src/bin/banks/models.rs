@@ -3,10 +3,10 @@ use crate::model::{Kind, Model, KINDS};
 use numbers::dice::Dice;
 
 const ONE: u64 = 0x3ff0_0000_0000_0000;
-const HALF: u64 = 0x3fe0_0000_0000_0000;
+pub const HALF: u64 = 0x3fe0_0000_0000_0000;
 
 /// Chances, the ends of their range and of the floats in it among them.
-const CHANCES: &[u64] = &[
+pub const CHANCES: &[u64] = &[
     0x0000_0000_0000_0000, // zero
     0x0000_0000_0000_0001, // the smallest subnormal
     0x000f_ffff_ffff_ffff, // the largest subnormal
@@ -19,7 +19,7 @@ const CHANCES: &[u64] = &[
 ];
 
 /// What is no chance.
-const NO_CHANCES: &[u64] = &[
+pub const NO_CHANCES: &[u64] = &[
     0x3ff0_0000_0000_0001, // the first above one
     0x4000_0000_0000_0000, // two
     0x7fef_ffff_ffff_ffff, // the largest finite number
@@ -175,7 +175,7 @@ fn uniform(dice: &mut Dice) -> u64 {
 }
 
 /// Any float of 0 to 1, where it is likely not far from one.
-fn chance(likely: bool, dice: &mut Dice) -> u64 {
+pub fn chance(likely: bool, dice: &mut Dice) -> u64 {
     match dice.below(6) {
         0 => dice.pick(CHANCES),
         _ if likely => (1.0 - f64::from_bits(uniform(dice)) / 16.0).to_bits(),
@@ -183,7 +183,7 @@ fn chance(likely: bool, dice: &mut Dice) -> u64 {
     }
 }
 
-fn no_chance(dice: &mut Dice) -> u64 {
+pub fn no_chance(dice: &mut Dice) -> u64 {
     match dice.below(4) {
         0 => dice.bits(),
         1 => ONE + dice.below(4),

@@ -3,6 +3,7 @@ use crate::bank_texts::{self, one_less, Table};
 use crate::case::Case;
 use crate::lent::{Room, LARGEST};
 use crate::models;
+use crate::values;
 use numbers::dice::Dice;
 use numbers::{decimal_texts, spellings, whole_texts};
 use std::collections::HashSet;
@@ -14,7 +15,7 @@ pub fn space() -> String {
     format!(
         "space: trace banks at every limit that their room allows, numbers at the edges of the \
          rules in them, faulty and damaged copies; acceptance models with draws, special values at \
-         every place; seed {SEED}"
+         every place; their values at positions in the list and past it; seed {SEED}"
     )
 }
 
@@ -24,6 +25,7 @@ pub fn recorded() -> Vec<Case> {
     let dice = &mut Dice::new(SEED);
     let mut groups = bank_groups(dice);
     groups.extend(model_groups(dice));
+    groups.extend(value_groups(dice));
     let longest = groups.iter().map(Vec::len).max().unwrap_or(0);
     let dealt =
         (0..longest).flat_map(|turn| groups.iter().filter_map(move |group| group.get(turn)));
@@ -51,6 +53,14 @@ fn model_groups(dice: &mut Dice) -> Vec<Vec<Case>> {
     let random = (0..60).map(|_| models::random(dice)).collect();
     let groups = [models::specials(), models::limits(), random, small];
     let cases = |models: &Vec<_>| models.iter().map(Case::model).collect();
+    groups.iter().map(cases).collect()
+}
+
+fn value_groups(dice: &mut Dice) -> Vec<Vec<Case>> {
+    let random = (0..160).map(|_| values::random(dice)).collect();
+    let groups = [values::specials(), values::limits(), random];
+    let case = |(model, position): &values::Asked| Case::value(model, *position);
+    let cases = |asked: &Vec<_>| asked.iter().map(case).collect();
     groups.iter().map(cases).collect()
 }
 
@@ -233,7 +243,11 @@ mod tests {
     use std::collections::BTreeSet;
 
     fn is_bank(case: &&Case) -> bool {
-        case.kind != Kind::Model
+        matches!(case.kind, Kind::Bank(_))
+    }
+
+    fn is_value(case: &&Case) -> bool {
+        case.kind == Kind::Value
     }
 
     #[test]
@@ -241,17 +255,20 @@ mod tests {
         let cases = recorded();
         assert_eq!(cases, recorded());
         let banks = cases.iter().filter(is_bank).count();
-        let models = cases.len() - banks;
+        let values = cases.iter().filter(is_value).count();
+        let models = cases.len() - banks - values;
         let bytes: usize = cases.iter().map(|case| line(case).len()).sum();
         assert!((500..=800).contains(&banks), "{banks} banks");
         assert!((1300..=1700).contains(&models), "{models} models");
+        assert!((280..=330).contains(&values), "{values} values");
         assert!(bytes < 600_000, "{bytes} bytes");
     }
 
     #[test]
     fn every_refusal_and_every_reason_is_met() {
         let cases = recorded();
-        let (banks, models): (Vec<_>, Vec<_>) = cases.iter().partition(is_bank);
+        let refusable = cases.iter().filter(|case| !is_value(case));
+        let (banks, models): (Vec<_>, Vec<_>) = refusable.partition(is_bank);
         let met = |cases: &[&Case], column| -> Vec<u8> {
             let numbers = cases.iter().filter_map(|case| case.refusal(column));
             numbers.collect::<BTreeSet<u8>>().into_iter().collect()
@@ -265,8 +282,12 @@ mod tests {
     }
 
     #[test]
-    fn a_beginning_holds_both_kinds_read_and_refused() {
-        let beginning = &recorded()[..200];
+    fn a_beginning_holds_values_and_the_other_kinds_read_and_refused() {
+        let (values, beginning): (Vec<_>, Vec<_>) = recorded()
+            .into_iter()
+            .take(200)
+            .partition(|case| is_value(&case));
+        assert!(values.len() > 20, "{} values", values.len());
         let holds = |bank: bool, refused: bool| {
             let is_one =
                 |case: &Case| is_bank(&case) == bank && case.refusal(0).is_some() == refused;

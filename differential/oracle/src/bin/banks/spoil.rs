@@ -17,6 +17,7 @@ fn compared(case: &Case) -> Vec<usize> {
     let says_the_rust: &[(usize, usize)] = match case.kind {
         Kind::Bank(_) => &[(3, 0)],
         Kind::Model => &[(2, 0), (3, 1)],
+        Kind::Value => &[(1, 0)],
     };
     let is_compared = |column: &usize| {
         let pair = says_the_rust.iter().find(|(rust, _)| rust == column);
@@ -24,7 +25,7 @@ fn compared(case: &Case) -> Vec<usize> {
             case.columns[rust] != NO_ANSWER && case.refusal(ours).is_none()
         })
     };
-    (0..4).filter(is_compared).collect()
+    (0..case.columns.len()).filter(is_compared).collect()
 }
 
 /// A digit stays a digit, decimal or hexadecimal.
@@ -43,10 +44,20 @@ mod tests {
             let changed = spoiled((turn, case.clone()));
             let before = case.columns.as_flattened();
             let after = changed.columns.as_flattened();
-            let differing: Vec<_> = (0..64).filter(|&at| before[at] != after[at]).collect();
+            let places = 0..before.len();
+            let differing: Vec<_> = places.filter(|&at| before[at] != after[at]).collect();
             assert!(matches!(differing[..], [15 | 31 | 47 | 63]));
             assert_ne!(before[differing[0]], b'-');
             assert_eq!((changed.kind, changed.text), (case.kind, case.text));
         }
+    }
+
+    #[test]
+    fn a_beginning_spoils_both_columns_of_values() {
+        let beginning = crate::sample::recorded().into_iter().take(200).enumerate();
+        let values = beginning.filter(|(_, case)| case.kind == Kind::Value);
+        let (ours, rust): (Vec<_>, Vec<_>) = values
+            .partition(|(turn, case)| spoiled((*turn, case.clone())).columns[0] != case.columns[0]);
+        assert!(ours.len() > 5 && rust.len() > 5);
     }
 }

@@ -42,6 +42,11 @@ pub fn sample(model: &Model) -> Sample {
     }
 }
 
+/// The bits of the value of a position.
+pub fn value(model: &Model, position: usize) -> u64 {
+    acceptance(model).a_d(position).to_bits()
+}
+
 fn acceptance(model: &Model) -> AcceptanceModel {
     match model.kind {
         Kind::Constant => AcceptanceModel::Constant {
