@@ -2,6 +2,8 @@
 //! beside Rust's own. Nothing here needs the Rust's files.
 pub mod case;
 pub mod case_file;
+pub mod case_line;
+pub mod commands;
 pub mod decimal_texts;
 pub mod dice;
 pub mod end_times;

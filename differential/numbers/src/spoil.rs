@@ -12,7 +12,8 @@ pub fn spoiled(mut case: Case) -> Case {
     case
 }
 
-fn with_lowest_bit_turned(digit: u8) -> u8 {
+/// A digit stays a digit, decimal or hexadecimal.
+pub fn with_lowest_bit_turned(digit: u8) -> u8 {
     let value = (digit as char).to_digit(16).unwrap_or(0) ^ 1;
     b"0123456789abcdef"[value as usize]
 }

@@ -237,9 +237,9 @@ mod tests {
     use super::*;
     use crate::alone::Reason;
     use crate::case::Kind;
-    use crate::case_file::line;
     use crate::figures::reason;
     use numbers::case::NO_ANSWER;
+    use numbers::case_file::FileCase;
     use std::collections::BTreeSet;
 
     fn is_bank(case: &&Case) -> bool {
@@ -257,7 +257,7 @@ mod tests {
         let banks = cases.iter().filter(is_bank).count();
         let values = cases.iter().filter(is_value).count();
         let models = cases.len() - banks - values;
-        let bytes: usize = cases.iter().map(|case| line(case).len()).sum();
+        let bytes: usize = cases.iter().map(|case| case.line().len()).sum();
         assert!((500..=800).contains(&banks), "{banks} banks");
         assert!((1300..=1700).contains(&models), "{models} models");
         assert!((280..=330).contains(&values), "{values} values");

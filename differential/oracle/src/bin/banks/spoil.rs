@@ -1,10 +1,11 @@
 //! Copies of cases with a wrong column: a replay has to count every one of them.
 use crate::case::{Case, Kind};
 use numbers::case::NO_ANSWER;
+use numbers::spoil::with_lowest_bit_turned;
 
 /// The case with the last digit of one of its columns changed, of the columns that a replay compares
 /// the one whose turn it is.
-pub fn spoiled((turn, mut case): (usize, Case)) -> Case {
+pub fn spoiled(turn: usize, mut case: Case) -> Case {
     let compared = compared(&case);
     let column = compared[turn % compared.len()];
     let digit = &mut case.columns[column][15];
@@ -28,12 +29,6 @@ fn compared(case: &Case) -> Vec<usize> {
     (0..case.columns.len()).filter(is_compared).collect()
 }
 
-/// A digit stays a digit, decimal or hexadecimal.
-fn with_lowest_bit_turned(digit: u8) -> u8 {
-    let value = (digit as char).to_digit(16).unwrap_or(0) ^ 1;
-    b"0123456789abcdef"[value as usize]
-}
-
 #[cfg(test)]
 mod tests {
     use super::*;
@@ -41,7 +36,7 @@ mod tests {
     #[test]
     fn every_case_is_changed_in_one_digit_that_is_compared() {
         for (turn, case) in crate::sample::recorded().into_iter().enumerate() {
-            let changed = spoiled((turn, case.clone()));
+            let changed = spoiled(turn, case.clone());
             let before = case.columns.as_flattened();
             let after = changed.columns.as_flattened();
             let places = 0..before.len();
@@ -57,7 +52,7 @@ mod tests {
         let beginning = crate::sample::recorded().into_iter().take(200).enumerate();
         let values = beginning.filter(|(_, case)| case.kind == Kind::Value);
         let (ours, rust): (Vec<_>, Vec<_>) = values
-            .partition(|(turn, case)| spoiled((*turn, case.clone())).columns[0] != case.columns[0]);
+            .partition(|(turn, case)| spoiled(*turn, case.clone()).columns[0] != case.columns[0]);
         assert!(ours.len() > 5 && rust.len() > 5);
     }
 }
