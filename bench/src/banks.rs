@@ -1,7 +1,7 @@
 //! Trace banks: `bank::read` against `TraceBank::load` of a text that is in memory already.
 use crate::dice::Dice;
 use crate::ours::Bank;
-use crate::side::by_side;
+use crate::side::{by_side_made, time_of};
 use oracle::config::TraceBank;
 use std::cell::RefCell;
 
@@ -50,11 +50,19 @@ fn reading(rounds: usize, depth: usize) {
         &bank.borrow(),
         &TraceBank::load("lent:bank").unwrap()
     ));
-    by_side(
-        &format!("a bank of {rounds} rounds of {depth}, each byte"),
+    let name = format!("a bank of {rounds} rounds of {depth}, each byte");
+    by_side_made(
+        &name,
         text.len(),
-        || bank.borrow_mut().read(&text).rounds,
-        || TraceBank::load("lent:bank").unwrap().rounds.len() as u64,
+        || bank.borrow_mut().read(&text),
+        || std_lent::fs::give_text(text.clone()),
+        |()| TraceBank::load("given").unwrap(),
+        |bank| bank.rounds.len() as u64,
+    );
+    let freed = time_of(&|| text.clone(), &drop);
+    println!(
+        "  of the Rust's, {:.2} ns is giving the text back",
+        freed.as_secs_f64() * 1e9 / text.len() as f64
     );
 }
 

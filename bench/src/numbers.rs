@@ -33,7 +33,7 @@ pub fn decimals() {
     by_side(
         "decimals, 3 to 15 digits, 0 to 10 decimals",
         COUNT,
-        || each(&|t| ours::decimal(t.as_bytes()).value.to_bits()),
+        || each(&|t| ours::decimal(t.as_bytes()).to_bits()),
         || each(&|t| t.parse::<f64>().unwrap().to_bits()),
     );
 }

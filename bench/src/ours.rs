@@ -1,22 +1,7 @@
 //! The proved library, across its C boundary. A slice crosses as its address and its length, and is used only during the call.
 
-#[repr(C)]
-pub struct DecimalRecord {
-    pub refusal: u64,
-    pub value: f64,
-}
-
-#[repr(C)]
-#[derive(Debug, PartialEq)]
-pub struct BankRecord {
-    pub refusal: u64,
-    pub row: u64,
-    pub depth: u64,
-    pub rounds: u64,
-}
-
 extern "C" {
-    fn bench_decimal(text: *const u8, length: usize) -> DecimalRecord;
+    fn bench_decimal(text: *const u8, length: usize) -> f64;
 
     #[cfg(feature = "rust")]
     fn bench_bank(
@@ -28,10 +13,11 @@ extern "C" {
         signals_room: usize,
         curve: *mut f64,
         curve_room: usize,
-    ) -> BankRecord;
+    ) -> u64;
 }
 
-pub fn decimal(text: &[u8]) -> DecimalRecord {
+/// The value; 0.0 where it is refused.
+pub fn decimal(text: &[u8]) -> f64 {
     unsafe { bench_decimal(text.as_ptr(), text.len()) }
 }
 
@@ -53,7 +39,8 @@ impl Bank {
         }
     }
 
-    pub fn read(&mut self, text: &str) -> BankRecord {
+    /// How many rounds were read; 0 where the text is refused.
+    pub fn read(&mut self, text: &str) -> u64 {
         let Bank {
             commits,
             signals,

@@ -12,13 +12,36 @@ pub fn by_side(name: &str, count: usize, ours: impl Fn() -> u64, rust: impl Fn()
         a.push(time(&ours));
         b.push(time(&rust));
     }
-    let (a, b) = (median(a), median(b));
+    tell(name, count, median(a), median(b));
+}
+
+/// The same, where the Rust takes what it works on and makes something new: getting ready for its turn
+/// and dropping what it made are outside the clock.
+pub fn by_side_made<Given, Made>(
+    name: &str,
+    count: usize,
+    ours: impl Fn() -> u64,
+    ready: impl Fn() -> Given,
+    rust: impl Fn(Given) -> Made,
+    sum: impl Fn(&Made) -> u64,
+) {
+    let answer = sum(&rust(ready()));
+    assert_eq!(ours(), answer, "{name}: the two sides answer differently");
+    let (mut a, mut b) = (Vec::new(), Vec::new());
+    for _ in 0..TURNS {
+        a.push(time(&ours));
+        b.push(time_made(&ready, &rust));
+    }
+    tell(name, count, median(a), median(b));
+}
+
+fn tell(name: &str, count: usize, ours: Duration, rust: Duration) {
     let each = |t: Duration| t.as_secs_f64() * 1e9 / count as f64;
     println!(
         "{name}: ours {:.2} ns, the Rust {:.2} ns each, ratio {:.2}",
-        each(a),
-        each(b),
-        each(a) / each(b)
+        each(ours),
+        each(rust),
+        each(ours) / each(rust)
     );
 }
 
@@ -26,6 +49,20 @@ fn time(work: &impl Fn() -> u64) -> Duration {
     let start = Instant::now();
     black_box(work());
     start.elapsed()
+}
+
+/// The median time of a work that takes what was made ready for it.
+pub fn time_of<Given, Made>(ready: &impl Fn() -> Given, work: &impl Fn(Given) -> Made) -> Duration {
+    median((0..TURNS).map(|_| time_made(ready, work)).collect())
+}
+
+fn time_made<Given, Made>(ready: &impl Fn() -> Given, work: &impl Fn(Given) -> Made) -> Duration {
+    let given = ready();
+    let start = Instant::now();
+    let made = black_box(work(given));
+    let taken = start.elapsed();
+    drop(made);
+    taken
 }
 
 fn median(mut times: Vec<Duration>) -> Duration {

@@ -1,7 +1,7 @@
 -- `bench_bank` meets its contract: each arm has the case that the reader answered, and the buffers are as the reader left them. Assumes nothing.
 use mathlib.Core.Path.{sym, ap, _∙_}
 use Rattle.bank.specs.Fill.{Outcome}
-use Rattle.bench_exports.specs.Records.{bankRecord}
+use Rattle.bench_exports.specs.Figures.{roundsOf}
 use borrow.Author.Needs.{needs}
 use Rattle.bench_exports.proofs.bench_bank.Statement.{statement}
 use Rattle.bench_exports.proofs.bench_bank.Tie as tie
@@ -12,14 +12,11 @@ read-requires c κs = search needs
 enum-known-answer : tie.Need-enum-known-answer
 enum-known-answer c = search needs
 
-cast-t17 : tie.Need-cast-t17
-cast-t17 c = search needs
+cast-result : tie.Need-cast-result
+cast-result c = search needs
 
-cast-t18 : tie.Need-cast-t18
-cast-t18 c = search needs
-
-enum-known-answer-2 : tie.Need-enum-known-answer-2
-enum-known-answer-2 c = search needs
+enum-told : tie.Need-enum-told
+enum-told c = search needs
 
 same-length : tie.Need-same-length
 same-length c = search needs
@@ -31,10 +28,10 @@ same-length-3 : tie.Need-same-length-3
 same-length-3 c = search needs
 
 returns : tie.Need-returns
-unfolding bankRecord
+unfolding roundsOf
 returns c =
     let e = c .before .before .before .before .before .before .before .before .before .read .ensures in
-    (ap bankRecord (sym (c .before .answer .given .1) ∙ ap (λ (o : Outcome). o .answer) e), (ap (λ (o : Outcome). o .commits) e, (ap (λ (o : Outcome). o .signals) e, ap (λ (o : Outcome). o .curve) e)))
+    (ap roundsOf (sym (c .before .answer .given .1) ∙ ap (λ (o : Outcome). o .answer) e), (ap (λ (o : Outcome). o .commits) e, (ap (λ (o : Outcome). o .signals) e, ap (λ (o : Outcome). o .curve) e)))
 
 same-length-4 : tie.Need-same-length-4
 same-length-4 c = search needs
@@ -46,10 +43,10 @@ same-length-6 : tie.Need-same-length-6
 same-length-6 c = search needs
 
 returns-2 : tie.Need-returns-2
-unfolding bankRecord
+unfolding roundsOf
 returns-2 c =
-    let e = c .before .before .before .before .before .before .before .before .before .read .ensures in
-    (ap bankRecord (sym (c .before .answer2 .given .1) ∙ ap (λ (o : Outcome). o .answer) e), (ap (λ (o : Outcome). o .commits) e, (ap (λ (o : Outcome). o .signals) e, ap (λ (o : Outcome). o .curve) e)))
+    let e = c .before .before .before .before .before .before .before .before .read .ensures in
+    (ap roundsOf (sym (c .enum-told .given .1) ∙ ap (λ (o : Outcome). o .answer) e), (ap (λ (o : Outcome). o .commits) e, (ap (λ (o : Outcome). o .signals) e, ap (λ (o : Outcome). o .curve) e)))
 
 pub bench-bank-spec : {M : Type 1} → statement M
 bench-bank-spec =
@@ -57,9 +54,8 @@ bench-bank-spec =
     (tie.spec
     read-requires
     enum-known-answer
-    cast-t17
-    cast-t18
-    enum-known-answer-2
+    cast-result
+    enum-told
     same-length
     same-length-2
     same-length-3
