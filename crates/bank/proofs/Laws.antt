@@ -1,6 +1,6 @@
 -- Laws of the judge's definitions. Assumes nothing.
 use mathlib.Core.Path.{_≡_, refl, sym, ap, _∙_}
-use mathlib.Core.Bool.{Bool, true, false, _&&_, cond}
+use mathlib.Core.Bool.{Bool, true, false, not, _&&_, cond}
 use mathlib.Core.List.{List, [], _∷_}
 use Prim.Native.Nat.{ℕ, zero, suc, _+_, _-_, _≤_, _<_, zero-le, suc-le-suc}
 use native.Mathlib.Nat.{not-suc-le-zero, le-trans, le-suc}
@@ -13,6 +13,7 @@ use Rattle.text.specs.Lines.{find, startsWith, lines}
 use Rattle.text.specs.Fields.{fields, sameText}
 use Rattle.text.proofs.Laws.{next}
 use Rattle.text.proofs.Walk.{drop-more}
+use Rattle.numeral.specs.Front.{fieldLength}
 use Rattle.numeral.specs.Spelling.{wholeOf, decimalOf}
 use Rattle.numeral.specs.Refusals.{wholeRefusal, decimalRefusal}
 use Rattle.text.specs.Blocks.{allAscii}
@@ -44,6 +45,15 @@ depth-from s n z names e f l =
     go false = omega arith
 
 -- ---- the signal
+
+-- a decimal's field ends where the search for the comma ends
+pub field-found : (s : List ℕ) → fieldLength s ≡ find 44 s
+field-found [] = refl
+field-found (b ∷ s) = go (eqb b 44) (field-found s)
+  where
+    go : (z : Bool) → fieldLength s ≡ find 44 s → cond (not z) (suc (fieldLength s)) 0 ≡ cond z 0 (suc (find 44 s))
+    go true e = refl
+    go false e = ap suc e
 
 -- a field that is passed over
 pub signal-skipped : (k : ℕ) (f : List ℕ) (fs : List (List ℕ)) → 0 < k → signalsRefusal (drop k (f ∷ fs)) ≡ signalsRefusal (drop (k - 1) fs)

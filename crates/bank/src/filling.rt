@@ -10,7 +10,7 @@ ghost use lib.Seq.{sets};
 ghost use lib.Ieee.{binary64, round};
 ghost use Rattle.text.specs.Lines.{lines};
 ghost use Rattle.text.specs.Fields.{fields};
-ghost use Rattle.numeral.specs.Spelling.{wholeOf, decimalOf};
+ghost use Rattle.numeral.specs.Spelling.{wholeOf};
 ghost use Rattle.bank.specs.Fill.{wholeValue, decimalValue, commitsOf, decimalsOf, signalsOf, sumUpTo, curveFrom, Accepted};
 
 // A whole number's value, 0 for none.
@@ -24,10 +24,10 @@ fn whole_value(field: &[u8]) -> u32
 }
 
 // A decimal's value, 0.0 for none.
-fn decimal_value(field: &[u8]) -> f64
-    ensures { λ r. ⌜ r ≡ decimalValue (decimalOf (now (field .entry))) ⌝ }
+fn decimal_value(read: Decimal) -> f64
+    ensures { λ r. ⌜ r ≡ decimalValue read ⌝ }
 {
-    match numeral::decimal(field) {
+    match read {
         Decimal::Value(value) => value,
         Decimal::Malformed => 0.0,
         Decimal::TooLong => 0.0,
@@ -70,12 +70,15 @@ fn fill_row(line: &[u8], skip: usize, signals: &mut [f64], from: usize) -> usize
     let mut left = skip;
     let mut at = from;
     loop {
-        let comma = text::find(rest, b',');
-        if 0 < left {
+        let comma = if 0 < left {
             left -= 1;
+            text::find(rest, b',')
         } else {
-            at = put_decimal(signals, at, decimal_value(&rest[..comma]));
-        }
+            let front = numeral::front::decimal(rest);
+            let read = front.decimal;
+            at = put_decimal(signals, at, decimal_value(read));
+            front.length
+        };
         if rest.len() <= comma {
             return at;
         }

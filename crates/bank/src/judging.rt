@@ -70,15 +70,17 @@ fn signals_refusal(line: &[u8], skip: usize) -> u64
     let mut rest = line;
     let mut left = skip;
     loop {
-        let comma = text::find(rest, b',');
-        if 0 < left {
+        let comma = if 0 < left {
             left -= 1;
+            text::find(rest, b',')
         } else {
-            let number = numeral::decimal_refusal(&rest[..comma]);
+            let front = numeral::front::refusal(rest);
+            let number = front.number;
             if number != 0 {
                 return number;
             }
-        }
+            front.length
+        };
         if rest.len() <= comma {
             return 0;
         }

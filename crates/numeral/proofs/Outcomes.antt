@@ -209,7 +209,7 @@ module _ (negative : Bool) (t : List ℕ) (k : ℕ) (count : k ≡ countWhile is
 
   -- the point ends them: f follows it, with j digits at its front
   module _ (f : List ℕ) (here : k < length t) (dot : getD t k 0 ≡ 46) (rest : f ≡ drop (k + 1) t) where
-    at-point : point t ≡ k
+    pub at-point : point t ≡ k
     at-point = let z : point (drop k t) ≡ 0 = count-ends isNoPoint t k here (ap not (eq-eqb (getD t k 0) 46 dot)) in omega (arith, past)
 
     pub parted : ofParts negative (take k t) f ≡ unsignedOf negative t

@@ -2,3 +2,4 @@ pub mod Digits
 pub mod Spelling
 pub mod Moment
 pub mod Refusals
+pub mod Front

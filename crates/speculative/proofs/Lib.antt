@@ -1,4 +1,8 @@
 pub mod Judged
 pub mod Expectation
 pub mod Draws
+pub mod Refusals
+pub mod Pricing
+pub mod Answers
+pub mod Equal
 mod Examples

@@ -1,1 +1,3 @@
 pub mod Acceptance
+pub mod Drafter
+pub mod Switch

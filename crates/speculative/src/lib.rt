@@ -1,3 +1,5 @@
-// Speculative decoding: how the target accepts a draft.
+// Speculative decoding: how the target accepts a draft, what drafting costs, and the switch settings.
 pub mod acceptance;
+pub mod drafter;
 pub mod inner;
+pub mod switch;

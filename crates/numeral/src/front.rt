@@ -1,0 +1,132 @@
+// The decimal in the first field of a line, up to its comma: its digits are walked once, and where they end the field mostly ends too.
+use crate::answer::Decimal;
+ghost use mathlib.Core.Path.{_≡_};
+ghost use mathlib.Core.Bool.{false};
+ghost use lib.Dec.{eqb};
+ghost use lib.ListN.{take, drop};
+ghost use Rattle.numeral.specs.Refusals.{decimalRefusal};
+ghost use Rattle.numeral.specs.Front.{fieldLength};
+ghost use Rattle.numeral.specs.Spelling.{decimalOf, unsignedOf};
+
+// What is wrong with the decimal in the first field, and how long the field is.
+pub struct Judged {
+    pub number: u64,
+    pub length: usize,
+}
+
+// What the decimal in the first field says, and how long the field is.
+pub struct Read {
+    pub decimal: Decimal,
+    pub length: usize,
+}
+
+// What is wrong with the decimal in the first field, 0 for nothing.
+pub fn refusal(line: &[u8]) -> Judged
+    ensures number { λ r. ⌜ r .number ≡ decimalRefusal (decimalOf (take (fieldLength (now (line .entry))) (now (line .entry)))) ⌝ }
+    ensures length { λ r. ⌜ r .length ≡ fieldLength (now (line .entry)) ⌝ }
+{
+    let text = crate::after_sign(line);
+    let sign = line.len() - text.len();
+    let judged = unsigned_refusal(text);
+    Judged {
+        number: judged.number,
+        length: sign + judged.length,
+    }
+}
+
+// The decimal in the first field.
+pub fn decimal(line: &[u8]) -> Read
+    ensures decimal { λ r. ⌜ r .decimal ≡ decimalOf (take (fieldLength (now (line .entry))) (now (line .entry))) ⌝ }
+    ensures length { λ r. ⌜ r .length ≡ fieldLength (now (line .entry)) ⌝ }
+{
+    let text = crate::after_sign(line);
+    let sign = line.len() - text.len();
+    let read = unsigned_decimal(crate::is_negative(line), text);
+    let decimal = read.decimal;
+    let length = sign + read.length;
+    Read { decimal, length }
+}
+
+// The same behind a sign. What is not digits, a point and digits is judged when the comma is found.
+fn unsigned_refusal(text: &[u8]) -> Judged
+    ensures number { λ r. ⌜ r .number ≡ decimalRefusal (unsignedOf false (take (fieldLength (now (text .entry))) (now (text .entry)))) ⌝ }
+    ensures length { λ r. ⌜ r .length ≡ fieldLength (now (text .entry)) ⌝ }
+{
+    let point = crate::digit_count(text);
+    if point < text.len() {
+        if text[point] == b'.' {
+            let from = point + 1;
+            let fraction = &text[from..];
+            let decimals = crate::digit_count(fraction);
+            if is_end(fraction, decimals) {
+                return Judged {
+                    number: crate::digits_refusal(&text[..point], &fraction[..decimals]),
+                    length: from + decimals,
+                };
+            }
+        }
+    }
+    let length = field_length(text);
+    Judged {
+        number: crate::unsigned_refusal(&text[..length]),
+        length,
+    }
+}
+
+// The same behind a sign. What is not digits, a point and digits is read when the comma is found.
+fn unsigned_decimal(negative: bool, text: &[u8]) -> Read
+    ensures decimal { λ r. ⌜ r .decimal ≡ unsignedOf negative (take (fieldLength (now (text .entry))) (now (text .entry))) ⌝ }
+    ensures length { λ r. ⌜ r .length ≡ fieldLength (now (text .entry)) ⌝ }
+{
+    let before = crate::leading_digits(text, 0, crate::DIGITS_LIMIT);
+    let point = before.count;
+    if point < text.len() {
+        if text[point] == b'.' {
+            let from = point + 1;
+            let fraction = &text[from..];
+            let both = crate::leading_digits(fraction, before.number, crate::DIGITS_LIMIT);
+            let decimals = both.count;
+            if is_end(fraction, decimals) {
+                return Read {
+                    decimal: crate::of_digits(
+                        negative,
+                        &text[..point],
+                        &fraction[..decimals],
+                        both.number,
+                    ),
+                    length: from + decimals,
+                };
+            }
+        }
+    }
+    let length = field_length(text);
+    Read {
+        decimal: crate::unsigned_decimal(negative, &text[..length]),
+        length,
+    }
+}
+
+// Whether the field ends at a place.
+fn is_end(text: &[u8], at: usize) -> bool
+    ensures { λ r. ⌜ r ≡ eqb (fieldLength (drop at (now (text .entry)))) 0 ⌝ }
+{
+    if at < text.len() {
+        text[at] == b','
+    } else {
+        true
+    }
+}
+
+// How long the first field is.
+fn field_length(line: &[u8]) -> usize
+    ensures { λ r. ⌜ r ≡ fieldLength (now (line .entry)) ⌝ }
+{
+    let mut at = 0usize;
+    while at < line.len() {
+        if line[at] == b',' {
+            return at;
+        }
+        at += 1;
+    }
+    at
+}

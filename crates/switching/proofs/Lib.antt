@@ -1,0 +1,8 @@
+mod Local
+pub mod Walking
+pub mod Slots
+pub mod Steps
+pub mod Widths
+pub mod Counter
+pub mod Stalls
+mod Examples
