@@ -5,9 +5,13 @@ mod dice;
 mod numbers;
 mod ours;
 mod side;
+#[cfg(feature = "rust")]
+mod tables;
 
 fn main() {
     numbers::decimals();
     #[cfg(feature = "rust")]
     banks::readings();
+    #[cfg(feature = "rust")]
+    tables::tables();
 }

@@ -17,6 +17,7 @@ pub fn by_side(name: &str, count: usize, ours: impl Fn() -> u64, rust: impl Fn()
 
 /// The same, where the Rust takes what it works on and makes something new: getting ready for its turn
 /// and dropping what it made are outside the clock.
+#[cfg(feature = "rust")]
 pub fn by_side_made<Given, Made>(
     name: &str,
     count: usize,
@@ -52,10 +53,12 @@ fn time(work: &impl Fn() -> u64) -> Duration {
 }
 
 /// The median time of a work that takes what was made ready for it.
+#[cfg(feature = "rust")]
 pub fn time_of<Given, Made>(ready: &impl Fn() -> Given, work: &impl Fn(Given) -> Made) -> Duration {
     median((0..TURNS).map(|_| time_made(ready, work)).collect())
 }
 
+#[cfg(feature = "rust")]
 fn time_made<Given, Made>(ready: &impl Fn() -> Given, work: &impl Fn(Given) -> Made) -> Duration {
     let given = ready();
     let start = Instant::now();

@@ -1,10 +1,16 @@
 -- An answer as one plain number: zero stands for a refusal.
 use Prim.Native.Nat.{ℕ}
-use lib.Ieee.{Float, binary64, ofBits}
+use mathlib.Core.Bool.{cond}
+use mathlib.Core.List.{List}
+use lib.Dec.{ltb}
+use lib.ListN.{getD}
+use lib.Ieee.{Float, nan, binary64, ofBits}
 use Rattle.numeral.specs.declared.answer.Decimal.{Decimal}
 use Rattle.numeral.specs.declared.answer.Decimal.the-variants.{Value, Malformed, TooLong}
 use Rattle.bank.specs.declared.Answer.{Answer}
 use Rattle.bank.specs.declared.Answer.the-variants.{Bank, Refused}
+use Rattle.measured.specs.declared.Answer.{Answer as Reading}
+use Rattle.measured.specs.declared.Answer.the-variants.{Table, Refused as Unread}
 
 unfoldable pub valueOf : Decimal → Float
 valueOf (Value x) = x
@@ -14,3 +20,11 @@ valueOf TooLong = ofBits binary64 0
 unfoldable pub roundsOf : Answer → ℕ
 roundsOf (Bank depth rounds) = rounds
 roundsOf (Refused number row) = 0
+
+unfoldable pub rowsOf : Reading → ℕ
+rowsOf (Table rows) = rows
+rowsOf (Unread number row) = 0
+
+-- of the 65 prices
+unfoldable pub priceAt : ℕ → List Float → Float
+priceAt depth prices = cond (ltb depth 65) (getD prices depth nan) (ofBits binary64 0)

@@ -1,4 +1,10 @@
 // Case files, as the replays read them: a file goes through a room smaller than it, and its first line is printed.
+pub mod answers;
+pub mod line;
+pub mod lists;
+pub mod tally;
+pub mod words;
+
 use libc::STDOUT_FILENO;
 ghost use mathlib.Core.Path.{_≡_};
 ghost use Prim.Native.Nat.{_-_, _≤_};

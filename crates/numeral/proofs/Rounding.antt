@@ -2,12 +2,12 @@
 use mathlib.Core.Path.{_≡_, refl, sym, ap, _∙_, subst}
 use mathlib.Core.Bool.{Bool, true, false, cond}
 use Prim.Native.Nat.{ℕ, zero, suc, _+_, _-_, _*_, _/_, _^_, _≤_, _<_, zero-le}
-use native.Mathlib.Nat.{add-zero, zero-add, add-suc, suc-add, le-of-suc-le-suc, not-suc-le-zero, mul-one, mul-pos, mul-comm, mul-assoc, mul-left-comm, zero-mul, lt-of-lt-of-le, lt-irrefl, zero-lt-suc, pow-le-pow-right}
+use native.Mathlib.Nat.{mul-one, mul-pos, mul-comm, mul-assoc, mul-left-comm, zero-mul, lt-of-lt-of-le, lt-irrefl, zero-lt-suc, pow-le-pow-right}
 use native.Mathlib.Omega.{arith}
 use borrow.Author.Tests.{ne-eqb}
 use lib.Dec.{lit<, T, eqb, ltb, eqb→eq}
 use mathlib.Core.List.{List, [], _∷_}
-use lib.ListN.{getD}
+use lib.ListN.{length, getD}
 use lib.IntN.{ℤ, pos}
 use Rattle.numeral.proofs.Table.{every, at}
 use lib.Pow.{pow-mono, shl-lt}
@@ -93,43 +93,12 @@ held v (fin false m e) t = (refl, eqb→eq (m * up e * 1) (v * down e) t)
 -- ---- by a table of powers of ten
 
 -- n powers of ten from 10 ^ k on, each as the format holds it
-abbrev tens : ℕ → ℕ → List Float
+abbrev pub tens : ℕ → ℕ → List Float
 tens zero k = []
 tens (suc n) k = round binary64 false (10 ^ k) 1 ∷ tens n (suc k)
 
-abbrev ten-to : ℕ → Float → Bool
+abbrev pub ten-to : ℕ → Float → Bool
 ten-to k x = holds (10 ^ k) x
-
-tens-at : (n j k : ℕ) → k < n → getD (tens n j) k nan ≡ round binary64 false (10 ^ (j + k)) 1
-tens-at zero j k h = absurd (not-suc-le-zero h)
-tens-at (suc n) j zero h = ap (λ (i : ℕ). round binary64 false (10 ^ i) 1) (sym (add-zero j))
-tens-at (suc n) j (suc k) h = tens-at n (suc j) k (le-of-suc-le-suc h) ∙ ap (λ (i : ℕ). round binary64 false (10 ^ i) 1) (suc-add j k ∙ sym (add-suc j k))
-
-all-held : T (every ten-to nan 0 (tens 23 0))
-unfolding round
-all-held = tt
-
-ten-held : (k : ℕ) → k ≤ 22 → HasValue (round binary64 false (10 ^ k) 1) false (10 ^ k) 1
-ten-held k h =
-    let i : k < 23 = omega arith in
-    subst (λ (x : Float). HasValue x false (10 ^ k) 1) (tens-at 23 0 k i ∙ ap (λ (j : ℕ). round binary64 false (10 ^ j) 1) (zero-add k))
-    (held (10 ^ k) (getD (tens 23 0) k nan) (at ten-to nan (tens 23 0) all-held k i))
-
--- a power by its name
-pub ten-of : (x k : ℕ) → x ≡ k → round binary64 false (10 ^ k) 1 ≡ round binary64 false (10 ^ x) 1
-ten-of x k e = ap (λ (i : ℕ). round binary64 false (10 ^ i) 1) (sym e)
-
--- x is none of 0 to n - 1, and so not below n
-abbrev pub Unlike : ℕ → ℕ → Type 0
-Unlike zero x = Unit
-Unlike (suc n) x = Unlike n x × (x ≡ n → ⊥)
-
-beyond : (n x : ℕ) → n ≤ x → (x ≡ n → ⊥) → n < x
-beyond n x h k = omega arith
-
-pub unlike-le : (n x : ℕ) → Unlike n x → n ≤ x
-unlike-le zero x u = zero-le
-unlike-le (suc n) x u = beyond n x (unlike-le n x (u .0)) (u .1)
 
 pos-pow : (k : ℕ) → 0 < 10 ^ k
 pos-pow k = pow-le-pow-right {n = 10} (lit< tt) zero-le
@@ -137,21 +106,23 @@ pos-pow k = pow-le-pow-right {n = 10} (lit< tt) zero-le
 small : (n : ℕ) → n ≤ 10 ^ 15 → n < 2 ^ 53
 small n h = omega arith
 
-tens-quotient : (n k : ℕ) (p : Float) → p ≡ round binary64 false (10 ^ k) 1 → n ≤ 10 ^ 15 → k ≤ 22 → div binary64 (ofInt binary64 (pos n)) p ≡ round binary64 false n (10 ^ k)
+pub tens-quotient : (powers : List Float) → T (every ten-to nan 0 powers) → (n k : ℕ) → n ≤ 10 ^ 15 → k < length powers
+    → div binary64 (ofInt binary64 (pos n)) (getD powers k nan) ≡ round binary64 false n (10 ^ k)
 unfolding ofInt
-tens-quotient n k p e h i =
-    quotient-rounds binary64 (round binary64 false n 1) p n (10 ^ k) (pos-pow k)
+tens-quotient powers t n k h i =
+    quotient-rounds binary64 (round binary64 false n 1) (getD powers k nan) n (10 ^ k) (pos-pow k)
     (whole-held binary64 n (small n h))
-    (subst (λ (x : Float). HasValue x false (10 ^ k) 1) (sym e) (ten-held k i))
+    (held (10 ^ k) (getD powers k nan) (at ten-to nan powers t k i))
 
 -- the same with the sign, as the code applies it
-pub positive : (s : Bool) (n k : ℕ) (p : Float) → s ≡ false → p ≡ round binary64 false (10 ^ k) 1 → n ≤ 10 ^ 15 → k ≤ 22
-    → div binary64 (ofInt binary64 (pos n)) p ≡ round binary64 s n (10 ^ k)
-positive s n k p z e h i = tens-quotient n k p e h i ∙ ap (λ (b : Bool). round binary64 b n (10 ^ k)) (sym z)
+pub positive : (powers : List Float) → T (every ten-to nan 0 powers) → (s : Bool) (n k : ℕ) → s ≡ false → n ≤ 10 ^ 15 → k < length powers
+    → div binary64 (ofInt binary64 (pos n)) (getD powers k nan) ≡ round binary64 s n (10 ^ k)
+positive powers t s n k e h i = tens-quotient powers t n k h i ∙ ap (λ (z : Bool). round binary64 z n (10 ^ k)) (sym e)
 
-pub negative : (s : Bool) (n k : ℕ) (p : Float) → s ≡ true → p ≡ round binary64 false (10 ^ k) 1 → n ≤ 10 ^ 15 → k ≤ 22
-    → neg (div binary64 (ofInt binary64 (pos n)) p) ≡ round binary64 s n (10 ^ k)
-negative s n k p z e h i = ap neg (tens-quotient n k p e h i) ∙ round-neg binary64 n (10 ^ k) ∙ ap (λ (b : Bool). round binary64 b n (10 ^ k)) (sym z)
+pub negative : (powers : List Float) → T (every ten-to nan 0 powers) → (s : Bool) (n k : ℕ) → s ≡ true → n ≤ 10 ^ 15 → k < length powers
+    → neg (div binary64 (ofInt binary64 (pos n)) (getD powers k nan)) ≡ round binary64 s n (10 ^ k)
+negative powers t s n k e h i =
+    ap neg (tens-quotient powers t n k h i) ∙ round-neg binary64 n (10 ^ k) ∙ ap (λ (z : Bool). round binary64 z n (10 ^ k)) (sym e)
 
 -- ---- a rounded fraction of at most 10 ^ 15 is finite and at most 10 ^ 15
 

@@ -259,43 +259,38 @@ fn leading_zeros(digits: &[u8]) -> usize
     at
 }
 
-// A power of ten that an f64 holds exactly.
-fn power(decimals: usize) -> f64
-    requires { ⌜ decimals ≤ 22 ⌝ }
-    ensures { λ r. ⌜ r ≡ round binary64 false (10 ^ decimals) 1 ⌝ }
-{
-    match decimals {
-        0 => 1.0,
-        1 => 10.0,
-        2 => 100.0,
-        3 => 1000.0,
-        4 => 10000.0,
-        5 => 100000.0,
-        6 => 1000000.0,
-        7 => 10000000.0,
-        8 => 100000000.0,
-        9 => 1000000000.0,
-        10 => 10000000000.0,
-        11 => 100000000000.0,
-        12 => 1000000000000.0,
-        13 => 10000000000000.0,
-        14 => 100000000000000.0,
-        15 => 1000000000000000.0,
-        16 => 10000000000000000.0,
-        17 => 100000000000000000.0,
-        18 => 1000000000000000000.0,
-        19 => 10000000000000000000.0,
-        20 => 100000000000000000000.0,
-        21 => 1000000000000000000000.0,
-        _ => 10000000000000000000000.0,
-    }
-}
+// The powers of ten that an f64 holds exactly.
+const POWERS: [f64; 23] = [
+    1.0,
+    10.0,
+    100.0,
+    1000.0,
+    10000.0,
+    100000.0,
+    1000000.0,
+    10000000.0,
+    100000000.0,
+    1000000000.0,
+    10000000000.0,
+    100000000000.0,
+    1000000000000.0,
+    10000000000000.0,
+    100000000000000.0,
+    1000000000000000.0,
+    10000000000000000.0,
+    100000000000000000.0,
+    1000000000000000000.0,
+    10000000000000000000.0,
+    100000000000000000000.0,
+    1000000000000000000000.0,
+    10000000000000000000000.0,
+];
 
 // The f64 nearest to digits / 10^decimals, with the sign: both are floats exactly, so only the quotient rounds.
 fn quotient(negative: bool, digits: u64, decimals: usize) -> f64
     requires { ⌜ (digits ≤ 10 ^ 15) × (decimals ≤ 22) ⌝ }
     ensures { λ r. ⌜ r ≡ round binary64 negative digits (10 ^ decimals) ⌝ }
 {
-    let magnitude = (digits as f64) / power(decimals);
+    let magnitude = (digits as f64) / POWERS[decimals];
     if negative { -magnitude } else { magnitude }
 }

@@ -1,5 +1,6 @@
 // Lines and fields of a lent text. Each function looks at the front of what it is lent: a caller hands it the rest of its text.
 pub mod blocks;
+pub mod inner;
 pub mod reader;
 
 ghost use mathlib.Core.Path.{_≡_};
@@ -35,7 +36,15 @@ pub fn first_line(s: &[u8]) -> Line
     ensures stop { λ r. ⌜ r .stop ≡ length (firstLine (now (s .entry))) ⌝ }
     ensures next { λ r. ⌜ r .next ≡ length (now (s .entry)) - length (afterLine (now (s .entry))) ⌝ }
 {
-    let feed = blocks::find(s, b'\n');
+    line_to(s, blocks::find(s, b'\n'))
+}
+
+// The first line of a text whose first LF stands at `feed`, or that has none and ends there.
+fn line_to(s: &[u8], feed: usize) -> Line
+    requires { ⌜ feed ≡ find 10 (now s) ⌝ }
+    ensures stop { λ r. ⌜ r .stop ≡ length (firstLine (now (s .entry))) ⌝ }
+    ensures next { λ r. ⌜ r .next ≡ length (now (s .entry)) - length (afterLine (now (s .entry))) ⌝ }
+{
     if feed < s.len() {
         if 0 < feed {
             let last = feed - 1;

@@ -1,6 +1,8 @@
 //! A trace bank in text, as docs/RULES.md has it, read by hand over bytes.
 use crate::lent::Room;
+use numbers::lines::{fields, lines};
 use numbers::reading;
+use numbers::refusal::Refusal;
 
 const MOST_COLUMNS: usize = 128;
 const MOST_DEPTH: usize = 64;
@@ -14,21 +16,6 @@ pub struct Bank {
     /// The signals of the rounds, one after the other.
     pub signals: Vec<u64>,
     pub curve: Vec<u64>,
-}
-
-#[derive(Clone, Copy, Debug, PartialEq, Eq)]
-pub struct Refusal<'a> {
-    pub number: u8,
-    pub row: u64,
-    /// The number that is at fault, where one is.
-    pub field: &'a [u8],
-}
-
-impl<'a> Refusal<'a> {
-    fn new(number: u8, row: u64) -> Refusal<'a> {
-        let field = &[];
-        Refusal { number, row, field }
-    }
 }
 
 /// How a header splits its rows.
@@ -63,20 +50,6 @@ pub fn read(text: &[u8], room: Room) -> Result<Bank, Refusal<'_>> {
     }
     bank.curve = (0..=bank.depth).map(|depth| mean(&bank, depth)).collect();
     Ok(bank)
-}
-
-/// What stands before each LF without one CR before it; what follows the last LF, where there is
-/// something, is a line as it stands.
-fn lines(text: &[u8]) -> impl Iterator<Item = &[u8]> {
-    text.split_inclusive(|&byte| byte == b'\n')
-        .map(|line| match line {
-            [rest @ .., b'\r', b'\n'] | [rest @ .., b'\n'] => rest,
-            _ => line,
-        })
-}
-
-fn fields(line: &[u8]) -> Vec<&[u8]> {
-    line.split(|&byte| byte == b',').collect()
 }
 
 fn header(line: &[u8], room: Room) -> Result<Header, u8> {
@@ -152,14 +125,6 @@ mod tests {
         assert_eq!(bank.curve, bits(&[0.0, 0.5, 1.0]));
         let bank = read(b"commits,a0,x\n1,2,3\n", LARGEST).unwrap();
         assert_eq!(bank.signals, bits(&[3.0]));
-    }
-
-    #[test]
-    fn lines_end_at_lf_with_or_without_one_cr() {
-        let of = |text: &'static [u8]| lines(text).collect::<Vec<_>>();
-        assert_eq!(of(b"a\r\nb\n\nc\r"), [&b"a"[..], b"b", b"", b"c\r"]);
-        assert_eq!(of(b"\r\r\n"), [b"\r"]);
-        assert_eq!(of(b"").len(), 0);
     }
 
     #[test]

@@ -1,11 +1,11 @@
 //! One case: a bank's text, a model or a position of one, the rules' answer to it and the unchanged
 //! Rust's. Where the two have to agree and do not, making the case panics.
-use crate::alone::Reason;
-use crate::bank::{self, Bank, Refusal};
+use crate::bank::{self, Bank};
 use crate::lent::{Buffers, Room};
 use crate::model::{Model, Sample};
 use crate::unchanged;
 use numbers::case::{hex, Column, NO_ANSWER};
+use numbers::refusal::{Reason, Refusal};
 use oracle::refusals;
 
 #[derive(Clone, Copy, Debug, PartialEq, Eq, Hash)]

@@ -1,6 +1,5 @@
 //! Writes files of cases of trace banks, of acceptance models and of their positions' values, answered
 //! by the rules and by the unchanged Rust.
-mod alone;
 mod bank;
 mod bank_texts;
 mod case;

@@ -235,11 +235,11 @@ fn numbers_in_a_row() -> Vec<Case> {
 #[cfg(test)]
 mod tests {
     use super::*;
-    use crate::alone::Reason;
     use crate::case::Kind;
     use crate::figures::reason;
     use numbers::case::NO_ANSWER;
     use numbers::case_file::FileCase;
+    use numbers::refusal::Reason;
     use std::collections::BTreeSet;
 
     fn is_bank(case: &&Case) -> bool {

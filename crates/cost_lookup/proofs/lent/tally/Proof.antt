@@ -1,0 +1,21 @@
+-- `lent::tally` meets its contract. Assumes nothing.
+use borrow.Author.Needs.{needs}
+use Rattle.cost_lookup.proofs.lent.tally.Statement.{statement}
+use Rattle.cost_lookup.proofs.lent.tally.Tie as tie
+
+add-result : tie.Need-add-result
+add-result c = search needs
+
+returns : tie.Need-returns
+returns c = simp (c .if1 .taken)
+
+returns-2 : tie.Need-returns-2
+returns-2 c = simp (c .if1 .left)
+
+pub tally-spec : {M : Type 1} → statement M
+tally-spec =
+    tie.close
+    (tie.spec
+    add-result
+    returns
+    returns-2)

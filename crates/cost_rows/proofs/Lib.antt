@@ -1,0 +1,11 @@
+pub mod Rows
+pub mod Columns
+pub mod Keeping
+pub mod Merging
+pub mod Ordered
+pub mod Apart
+pub mod Sorting
+pub mod Composed
+pub mod Pruned
+pub mod Reordered
+pub mod Examples

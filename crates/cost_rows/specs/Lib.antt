@@ -1,0 +1,5 @@
+pub mod Table
+pub mod Order
+pub mod Prune
+pub mod Inner
+pub mod Lawful

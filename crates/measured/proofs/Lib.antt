@@ -1,0 +1,5 @@
+pub mod Laws
+pub mod Accepted
+pub mod Ranges
+pub mod Loaded
+pub mod Examples

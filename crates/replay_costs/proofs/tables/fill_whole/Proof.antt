@@ -1,0 +1,52 @@
+-- `tables::fill_whole` ends and stays in the column. Assumes nothing.
+use mathlib.Core.Path.{_≡_}
+use Prim.Native.Nat.{_≤_, _-_}
+use lib.ListN.{length, length-set}
+use borrow.Author.Needs.{needs}
+use Rattle.replay_costs.proofs.tables.fill_whole.Statement.{statement}
+use Rattle.replay_costs.proofs.tables.fill_whole.Tie as tie
+
+abbrev Inv-loop : tie.InvT-loop
+Inv-loop column₀ k₀ column k = (k ≤ length column₀) × (length column ≡ length column₀)
+
+abbrev μ-loop : tie.MeasureT-loop
+μ-loop column₀ k₀ column k = length column₀ - k
+
+loop-holds : tie.Need-loop-holds Inv-loop μ-loop
+loop-holds c = search needs
+
+mul-column : tie.Need-mul-column Inv-loop μ-loop
+mul-column c = search needs
+
+slice-write-column : tie.Need-slice-write-column Inv-loop μ-loop
+slice-write-column c = search needs
+
+add-k : tie.Need-add-k Inv-loop μ-loop
+add-k c = search needs
+
+loop-less : tie.Need-loop-less Inv-loop μ-loop
+loop-less c = search needs
+
+loop-again : tie.Need-loop-again Inv-loop μ-loop
+loop-again c = simp length-set (search needs)
+
+same-length : tie.Need-same-length Inv-loop μ-loop
+same-length c = search needs
+
+returns : tie.Need-returns Inv-loop μ-loop
+returns c = search needs
+
+pub fill-whole-spec : {M : Type 1} → statement M
+fill-whole-spec =
+    tie.close
+    (tie.spec
+    Inv-loop
+    μ-loop
+    loop-holds
+    mul-column
+    slice-write-column
+    add-k
+    loop-less
+    loop-again
+    same-length
+    returns)

@@ -1,0 +1,133 @@
+// Drafter costs. A drafter is six words: its kind (0 Fraction, 1 Autoregressive, 2 BlockParallel), two floats, three counts. The words of a
+// cost are the drafter, gamma, batch, the three rates, the verify cost, and two lists: the widths and the loaded experts.
+use cases::answers;
+use cases::lists;
+use cases::tally;
+use cases::words;
+use speculative::drafter;
+use speculative::drafter::DraftTime;
+use speculative::drafter::DrafterCost;
+use speculative::drafter::Rates;
+ghost use Prim.Native.Nat.{_≤_};
+ghost use lib.ListN.{length};
+
+pub fn print(counts: &[u64]) {
+    tally::print_kind(counts, b'v', b"drafter_refusal");
+    tally::print_kind(counts, b'w', b"rates_refusal");
+    tally::print_kind(counts, b'b', b"is_block");
+    tally::print_kind(counts, b'd', b"seconds");
+    tally::print_kind(counts, b'q', b"pass_seconds");
+    tally::print_kind(counts, b'g', b"ragged_seconds");
+}
+
+pub fn is_cost(kind: u8) -> bool {
+    match kind {
+        b'd' => true,
+        b'q' => true,
+        b'g' => true,
+        _ => false,
+    }
+}
+
+pub fn is_setting(kind: u8) -> bool {
+    match kind {
+        b'v' => true,
+        b'w' => true,
+        b'b' => true,
+        _ => false,
+    }
+}
+
+// What is refused of a drafter or of rates, and whether a drafter drafts one block.
+pub fn setting(kind: u8, input: &[u64], ours: &mut [u64]) -> usize
+    ensures { λ r. ⌜ r ≤ length (now (ours .exit)) ⌝ }
+{
+    if kind == b'w' {
+        return answers::one(ours, drafter::rates_refusal(rates_at(input, 0, 1, 2)));
+    }
+    let head = drafter_of(input);
+    if kind == b'v' {
+        return answers::one(ours, drafter::drafter_refusal(head));
+    }
+    answers::two(ours, 0, number(drafter::is_block(head)))
+}
+
+fn number(is_so: bool) -> u64 {
+    if is_so { 1 } else { 0 }
+}
+
+fn rates_at(input: &[u64], peak: usize, bw: usize, kv_delta: usize) -> Rates {
+    Rates {
+        peak: words::float_at(input, peak),
+        bw: words::float_at(input, bw),
+        kv_delta: words::float_at(input, kv_delta),
+    }
+}
+
+fn drafter_of(input: &[u64]) -> DrafterCost {
+    let kind = words::at(input, 0);
+    if kind == 0 {
+        return DrafterCost::Fraction {
+            frac: words::float_at(input, 1),
+        };
+    }
+    if kind == 1 {
+        return DrafterCost::Autoregressive {
+            dense_params: words::float_at(input, 1),
+            expert_params: words::float_at(input, 2),
+            num_experts: words::whole_at(input, 3),
+            experts_per_tok: words::whole_at(input, 4),
+            shared_experts: words::whole_at(input, 5),
+        };
+    }
+    DrafterCost::BlockParallel {
+        params: words::float_at(input, 1),
+        block: words::whole_at(input, 3),
+    }
+}
+
+// Lends the lists to the cost of a kind.
+pub fn cost(
+    kind: u8,
+    input: &[u64],
+    widths: &mut [u32],
+    loaded: &mut [f64],
+    ours: &mut [u64],
+) -> usize
+    ensures { λ r. ⌜ r ≤ length (now (ours .exit)) ⌝ }
+{
+    let w = lists::whole_numbers(input, 12, widths);
+    let second = lists::behind(input, 12, w);
+    let n = lists::floats(input, second, loaded);
+    put_time(ours, ask(kind, input, &widths[0..w], &loaded[0..n]))
+}
+
+fn ask(kind: u8, input: &[u64], widths: &[u32], loaded: &[f64]) -> DraftTime {
+    let head = drafter_of(input);
+    let batch = words::whole_at(input, 7);
+    let rates = rates_at(input, 8, 9, 10);
+    let verify_c = words::float_at(input, 11);
+    if kind == b'g' {
+        return drafter::ragged_seconds(head, widths, rates, verify_c, loaded);
+    }
+    if kind == b'q' {
+        return drafter::pass_seconds(head, batch, rates, loaded);
+    }
+    drafter::seconds(
+        head,
+        words::whole_at(input, 6),
+        batch,
+        rates,
+        verify_c,
+        loaded,
+    )
+}
+
+fn put_time(ours: &mut [u64], time: DraftTime) -> usize
+    ensures { λ r. ⌜ r ≤ length (now (ours .exit)) ⌝ }
+{
+    match time {
+        DraftTime::Seconds(value) => answers::two(ours, 0, float::bits(value)),
+        DraftTime::Refused(number) => answers::two(ours, number, 0),
+    }
+}

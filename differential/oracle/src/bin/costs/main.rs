@@ -1,0 +1,29 @@
+//! Writes files of cases of cost tables, of drafter costs and of switching, answered by the rules and
+//! by the unchanged Rust.
+mod decisions;
+mod drafter;
+mod drafters;
+mod lent_table;
+mod lookups;
+mod random;
+mod range;
+mod sample;
+mod switching;
+mod table;
+mod table_texts;
+mod tables;
+mod unchanged;
+
+use numbers::commands::{run, Writer};
+use numbers::word_case::WordCase;
+use std::process::ExitCode;
+
+fn main() -> ExitCode {
+    run(&Writer {
+        name: "costs",
+        recorded: || (sample::space(), sample::recorded()),
+        random: |seed| (random::space(seed), random::cases(seed)),
+        spoiled: WordCase::spoiled,
+        spoiling: "each spoiled in one word",
+    })
+}
