@@ -19,13 +19,15 @@ use Rattle.float.specs.Floats.{f0, isClear}
 use Rattle.float.specs.Range.{inRange}
 use Rattle.float.proofs.Ranges.{in-range}
 use Rattle.text.specs.Lines.{lines}
-use Rattle.bank.specs.declared.Answer.the-variants.{Bank}
-use Rattle.bank.specs.Judge.{judged}
-use Rattle.bank.specs.Fill.{commitsOf, sumUpTo, bankRead}
+use Rattle.bank_judge.specs.declared.Answer.the-variants.{Bank}
+use Rattle.bank_judge.specs.Judge.{judged}
+use Rattle.bank_fill.specs.Fill.{commitsOf}
+use Rattle.bank_curve.specs.Curve.{sumUpTo}
+use Rattle.bank.specs.Read.{bankRead}
 use Rattle.bank.specs.declared.Expected.the-variants.{Value}
 use Rattle.bank.specs.Acceptance.{mostAccepted, expectedAccepted}
-use Rattle.bank.proofs.Accepted.{accepted, commits-length}
-use Rattle.bank.proofs.Curve.{sum-small}
+use Rattle.bank_fill.proofs.Accepted.{accepted, commits-length}
+use Rattle.bank_curve.proofs.Curve.{sum-small}
 use Rattle.bank.proofs.Lookups.{sizes-fit, in-the-range}
 use Rattle.bank.proofs.Places.{curve-placed}
 

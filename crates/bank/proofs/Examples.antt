@@ -6,10 +6,11 @@ use mathlib.Core.List.{List, [], _∷_}
 use Prim.Native.Nat.{ℕ}
 use lib.IntN.{pos, negsuc}
 use lib.Ieee.{Float, fin, nan, round}
-use Rattle.numeral.specs.Spelling.{wholeOf, decimalOf}
-use Rattle.bank.specs.declared.Answer.the-variants.{Bank, Refused}
-use Rattle.bank.specs.Judge.{headerRefusal, rowRefusal, judgeLines, judged}
-use Rattle.bank.specs.Fill.{Outcome, bankRead}
+use Rattle.numeral.specs.Spelling.{wholeOf}
+use Rattle.decimals.specs.Decimals.{decimalOf}
+use Rattle.bank_judge.specs.declared.Answer.the-variants.{Bank, Refused}
+use Rattle.bank_judge.specs.Judge.{headerRefusal, rowRefusal, judgeLines, judged}
+use Rattle.bank.specs.Read.{Outcome, bankRead}
 
 -- what stands in the buffers before
 abbrev read : List ℕ → Outcome

@@ -1,9 +1,6 @@
 pub mod Bounds
 pub mod Lookups
-pub mod Accepted
-pub mod Curve
+pub mod Outcomes
 mod Examples
-pub mod Laws
 pub mod Places
 pub mod Spelled
-pub mod Stores

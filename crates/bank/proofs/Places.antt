@@ -12,12 +12,15 @@ use lib.Seq.{getD-append-add, getD-drop}
 use lib.Arith.{digits-lt}
 use Rattle.text.specs.Lines.{lines}
 use Rattle.text.specs.Fields.{fields}
-use Rattle.numeral.specs.Spelling.{wholeOf, decimalOf}
-use Rattle.bank.specs.Fill.{wholeValue, decimalValue, commitsOf, decimalsOf, signalsOf, sumUpTo, curveFrom, over, filled, bankRead}
-use Rattle.bank.specs.Judge.{judged}
-use Rattle.bank.specs.declared.Answer.{Answer}
-use Rattle.bank.specs.declared.Answer.the-variants.{Bank}
-use Rattle.bank.proofs.Accepted.{accepted, commits-length, curve-length, decimals-length}
+use Rattle.numeral.specs.Spelling.{wholeOf}
+use Rattle.decimals.specs.Decimals.{decimalOf}
+use Rattle.bank_fill.specs.Fill.{wholeValue, decimalValue, commitsOf, decimalsOf, signalsOf}
+use Rattle.bank_curve.specs.Curve.{sumUpTo, curveFrom, over}
+use Rattle.bank.specs.Read.{filled, bankRead}
+use Rattle.bank_judge.specs.Judge.{judged}
+use Rattle.bank_judge.specs.declared.Answer.{Answer}
+use Rattle.bank_judge.specs.declared.Answer.the-variants.{Bank}
+use Rattle.bank_fill.proofs.Accepted.{accepted, commits-length, curve-length, decimals-length}
 
 -- commits[i] is the first field of row i
 pub commits-at : (rows : List (List ℕ)) (i d : ℕ) → i < length rows → getD (commitsOf rows) i d ≡ wholeValue (wholeOf (getD (fields (getD rows i [])) 0 []))

@@ -14,14 +14,16 @@ use Rattle.text.specs.Lines.{lines}
 use Rattle.text.specs.Fields.{fields}
 use Rattle.numeral.specs.declared.answer.Whole.{Whole}
 use Rattle.numeral.specs.declared.answer.Whole.the-variants.{Value as WholeValue, Malformed as NoWhole}
-use Rattle.numeral.specs.declared.answer.Decimal.{Decimal}
-use Rattle.numeral.specs.declared.answer.Decimal.the-variants.{Value, Malformed, TooLong}
-use Rattle.numeral.specs.Spelling.{wholeOf, decimalOf}
-use Rattle.bank.specs.declared.Answer.the-variants.{Bank}
-use Rattle.numeral.specs.Refusals.{wholeRefusal, decimalRefusal}
-use Rattle.bank.specs.Judge.{orElse, signalsRefusal, rowRefusal, judged}
-use Rattle.bank.specs.Fill.{wholeValue, decimalValue, bankRead}
-use Rattle.bank.proofs.Accepted.{accepted}
+use Rattle.decimals.specs.declared.Decimal.{Decimal}
+use Rattle.decimals.specs.declared.Decimal.the-variants.{Value, Malformed, TooLong}
+use Rattle.numeral.specs.Spelling.{wholeOf}
+use Rattle.decimals.specs.Decimals.{decimalOf, decimalRefusal}
+use Rattle.bank_judge.specs.declared.Answer.the-variants.{Bank}
+use Rattle.numeral.specs.Refusals.{wholeRefusal}
+use Rattle.bank_judge.specs.Judge.{orElse, signalsRefusal, rowRefusal, judged}
+use Rattle.bank_fill.specs.Fill.{wholeValue, decimalValue}
+use Rattle.bank.specs.Read.{bankRead}
+use Rattle.bank_fill.proofs.Accepted.{accepted}
 use Rattle.bank.proofs.Places.{commits-placed, signals-placed}
 
 has-whole : (w : Whole) → wholeRefusal w ≡ 0 → w ≡ WholeValue (wholeValue w)

@@ -9,7 +9,7 @@ use Rattle.float.specs.Floats.{f0}
 use Rattle.float.specs.Range.{inRange}
 use Rattle.bank.specs.declared.Expected.{Expected}
 use Rattle.bank.specs.declared.Expected.the-variants.{Value, Refused}
-use Rattle.bank.specs.Judge.{mostDepth}
+use Rattle.bank_judge.specs.Judge.{mostDepth}
 
 -- 64.0, the most that an entry of a curve can be
 abbrev pub mostAccepted : Float

@@ -1,3 +1,2 @@
-pub mod Judge
-pub mod Fill
+pub mod Read
 pub mod Acceptance

@@ -1,33 +1,19 @@
 // The trace bank: rounds with their commits and signals, read from a text, and its expected acceptance.
-mod filling;
-mod judging;
-
+use bank_judge::Answer;
+use bank_judge::MOST_DEPTH;
 ghost use mathlib.Core.Path.{_≡_};
-ghost use Rattle.bank.specs.Fill.{bankRead};
+ghost use Rattle.bank.specs.Read.{bankRead};
 ghost use Rattle.bank.specs.Acceptance.{expectedAccepted, sizesRefusal};
-
-// The sizes of a bank.
-pub const MOST_COLUMNS: usize = 128;
-
-pub const MOST_DEPTH: usize = 64;
-
-pub const MOST_ROUNDS: usize = 65536;
-
-// What reading a bank answers: its size, or the refusal's number and row.
-pub enum Answer {
-    Bank { depth: u32, rounds: u32 },
-    Refused { number: u64, row: u64 },
-}
 
 // Reads a trace bank: its size, with its rounds and its curve in the buffers, or the first refusal, with nothing written.
 pub fn read(text: &[u8], commits: &mut [u32], signals: &mut [f64], curve: &mut [f64]) -> Answer
     ensures { λ r. ⌜ record { answer = r; commits = now (commits .exit); signals = now (signals .exit); curve = now (curve .exit) } ≡ bankRead (now (text .entry)) (now (commits .entry)) (now (signals .entry)) (now (curve .entry)) ⌝ }
 {
-    let answer = judging::judge(text, commits.len(), signals.len(), curve.len());
+    let answer = bank_judge::inner::judge(text, commits.len(), signals.len(), curve.len());
     let Answer::Bank { depth, rounds } = answer else {
         return answer;
     };
-    filling::fill(text, depth, rounds, commits, signals, curve);
+    bank_fill::inner::fill(text, depth, rounds, commits, signals, curve);
     answer
 }
 
@@ -45,7 +31,7 @@ pub fn expected_accepted(curve: &[f64], depth: u32, gamma: u32) -> Expected
     if number != 0 {
         return Expected::Refused(number);
     }
-    let g = filling::capped(gamma, depth) as usize;
+    let g = bank_curve::inner::capped(gamma, depth) as usize;
     if curve.len() <= g {
         return Expected::Refused(16);
     }

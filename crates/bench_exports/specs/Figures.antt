@@ -5,10 +5,10 @@ use mathlib.Core.List.{List}
 use lib.Dec.{ltb}
 use lib.ListN.{getD}
 use lib.Ieee.{Float, nan, binary64, ofBits}
-use Rattle.numeral.specs.declared.answer.Decimal.{Decimal}
-use Rattle.numeral.specs.declared.answer.Decimal.the-variants.{Value, Malformed, TooLong}
-use Rattle.bank.specs.declared.Answer.{Answer}
-use Rattle.bank.specs.declared.Answer.the-variants.{Bank, Refused}
+use Rattle.decimals.specs.declared.Decimal.{Decimal}
+use Rattle.decimals.specs.declared.Decimal.the-variants.{Value, Malformed, TooLong}
+use Rattle.bank_judge.specs.declared.Answer.{Answer}
+use Rattle.bank_judge.specs.declared.Answer.the-variants.{Bank, Refused}
 use Rattle.measured.specs.declared.Answer.{Answer as Reading}
 use Rattle.measured.specs.declared.Answer.the-variants.{Table, Refused as Unread}
 

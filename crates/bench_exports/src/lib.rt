@@ -1,9 +1,9 @@
 // What bench/ calls across the C boundary: the entry points that it measures, each answer as one plain number, which crosses alike on every machine.
-use bank::Answer;
-use numeral::answer::Decimal;
+use bank_judge::Answer;
+use decimals::Decimal;
 ghost use mathlib.Core.Path.{_≡_};
-ghost use Rattle.numeral.specs.Spelling.{decimalOf};
-ghost use Rattle.bank.specs.Fill.{bankRead};
+ghost use Rattle.decimals.specs.Decimals.{decimalOf};
+ghost use Rattle.bank.specs.Read.{bankRead};
 ghost use Rattle.cost_lookup.specs.Entry.{priceCurveAt};
 ghost use Rattle.measured.specs.Fill.{tableRead};
 ghost use Rattle.bench_exports.specs.Figures.{valueOf, roundsOf, rowsOf, priceAt};

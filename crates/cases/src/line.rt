@@ -1,7 +1,7 @@
 // A case of words as a line: `KIND INPUTS ANSWERS WORD ..`, where KIND is a letter, INPUTS and ANSWERS are six digits each that say how
 // many words are lent and answered, and each word is sixteen hexadecimal digits behind a space.
-use crate::refill;
 use crate::words;
+use case_files::refill;
 ghost use Prim.Native.Nat.{_<_, _≤_};
 ghost use lib.ListN.{length};
 

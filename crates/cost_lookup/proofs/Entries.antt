@@ -6,7 +6,8 @@ use Prim.Native.Nat.{ℕ, zero, suc, _≤_, _<_}
 use native.Mathlib.Omega.{arith}
 use lib.Ieee.{Float, neg}
 use Rattle.float.specs.Range.{inSignedRange}
-use Rattle.cost_lookup.specs.Entry.{tableRefusal, farthest, deltaRefusal, firstOf, unless, curveRefusal}
+use Rattle.cost_lookup.specs.Entry.{tableRefusal, farthest, deltaRefusal, unless, curveRefusal}
+use Rattle.refusals.specs.Refusals.{firstOf}
 
 pub refused : {A : Type 0} (t refusal : ℕ) (f : ℕ → A) (x : A) → refusal ≡ t → 0 < refusal → f refusal ≡ unless t f x
 refused zero refusal f x e h = absurd (omega arith)

@@ -7,18 +7,19 @@ use lib.ListN.{getD}
 use lib.Ieee.{Float, nan, inf, binary64, ofBits, ofInt, isNan, lt, le, neg, add, sub, mul, div}
 use Rattle.float.specs.Floats.{f0, f1, f2, infinity, maxOf, isFinite}
 use Rattle.float.specs.Range.{inSignedRange}
-use Rattle.cost_lookup.specs.declared.answer.Time.the-variants.{Seconds, Unmeasured, Refused}
-use Rattle.cost_lookup.specs.declared.answer.Measured.the-variants.{Yes, No}
-use Rattle.cost_lookup.specs.declared.answer.BatchRange.the-variants.{Between}
-use Rattle.cost_lookup.specs.declared.answer.MaxBatch.the-variants.{Batch}
+use Rattle.step_times.specs.declared.Time.the-variants.{Seconds, Unmeasured, Refused}
+use Rattle.batch_ranges.specs.declared.Measured.the-variants.{Yes, No}
+use Rattle.batch_ranges.specs.declared.BatchRange.the-variants.{Between}
+use Rattle.batch_ranges.specs.declared.MaxBatch.the-variants.{Batch}
 use Rattle.cost_rows.specs.Table.{Row, zip, ofDepth}
 use Rattle.cost_rows.specs.Order.{before, earlier, falls, ordered}
 use Rattle.cost_rows.specs.Lawful.{inRange, allInRange, lawful}
-use Rattle.cost_lookup.specs.Lookup.{stepTime, timeOf, nearest, closest, closer, nearer}
-use Rattle.cost_lookup.specs.Range.{measures, hasDraft, rangeOf, rangeFrom, widened, highest, maxBatch}
-use Rattle.cost_lookup.specs.Between.{stepTimeFrac, asked, between, straight, deepest, deeper, shallowest, shallower}
-use Rattle.cost_lookup.specs.Prices.{priceOf, each, prices}
-use Rattle.cost_lookup.specs.Place.{rowsBefore}
+use Rattle.step_times.specs.Times.{stepTime, timeOf}
+use Rattle.nearest_row.specs.Lookup.{nearest, closest, closer, nearer}
+use Rattle.batch_ranges.specs.Range.{measures, hasDraft, rangeOf, rangeFrom, widened, highest, maxBatch}
+use Rattle.step_times.specs.Between.{stepTimeFrac, asked, between, straight, deepest, deeper, shallowest, shallower}
+use Rattle.step_times.specs.Prices.{priceOf, each, prices}
+use Rattle.nearest_row.specs.Place.{rowsBefore}
 use Rattle.cost_lookup.specs.Entry.{tableRefusal, deltaRefusal, stepTimeAt}
 
 abbrev row : ℕ → ℕ → Float → Row

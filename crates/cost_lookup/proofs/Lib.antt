@@ -1,12 +1,4 @@
-pub mod Rows
-pub mod Near
 pub mod Turns
 pub mod Judged
-pub mod Filled
 pub mod Entries
-pub mod Fractions
-pub mod Ascending
-pub mod Placed
-pub mod Chosen
-pub mod Beside
 pub mod Examples

@@ -1,24 +1,18 @@
--- A turn of each loop over the rows: the judgement, what is measured, the range and the nearest depths. Assumes nothing.
+-- A turn of each loop of the judgement. Assumes nothing.
 use mathlib.Core.Path.{_≡_, refl, sym, ap, _∙_}
 use mathlib.Core.Bool.{Bool, true, false, not, _&&_, cond}
-use mathlib.Core.List.{List, [], _∷_, map}
+use mathlib.Core.List.{List, [], _∷_}
 use Prim.Native.Nat.{ℕ, zero, suc, _+_, _-_, _≤_, _<_}
-use native.Mathlib.Nat.{le-of-suc-le-suc, not-suc-le-zero}
 use native.Mathlib.Numerals.{add-one}
 use native.Mathlib.Omega.{arith}
-use borrow.Author.Tests.{eq-eqb, ne-eqb}
+use borrow.Author.Tests.{ne-eqb}
 use lib.Dec.{eqb}
-use lib.ListN.{length, getD, take, drop, drop-of-length-le}
-use lib.Seq.{drop-cons, getD-take, length-take-le}
+use lib.ListN.{length, getD, drop, drop-of-length-le}
 use lib.Ieee.{Float, nan}
-use Rattle.cost_lookup.specs.declared.answer.BatchRange.{BatchRange}
-use Rattle.cost_lookup.specs.declared.answer.Depth.{Depth}
-use Rattle.cost_rows.specs.Table.{Row, zip, ofDepth}
+use Rattle.cost_rows.specs.Table.{Row, zip}
 use Rattle.cost_rows.specs.Order.{before, earlier, falls, ordered}
 use Rattle.cost_rows.specs.Lawful.{inRange, allInRange}
-use Rattle.cost_lookup.specs.Range.{measures, widened, rangeFrom}
-use Rattle.cost_lookup.specs.Between.{deeper, deepest, shallower, shallowest}
-use Rattle.cost_lookup.proofs.Rows.{rowAt, zip-next, zip-length}
+use Rattle.nearest_row.proofs.Rows.{rowAt, zip-next, zip-length}
 
 -- ---- the order, with the depth and the batch of the row in front held
 
@@ -78,22 +72,6 @@ module _ (n : ℕ) (d b : List ℕ) (s : List Float) (p : n ≤ length d) (q : n
         let same : i + 1 - 1 ≡ i = omega arith in
         rw (same, add-one, zip-next n d b s nan i p q r h) (after-next g a (rowAt d b s nan i) (drop (suc i) (zip n d b s)))
 
-    pub measured-here : (g : ℕ) → getD d i 0 ≡ g → measures g (drop i (zip n d b s)) ≡ true
-    unfolding measures
-    measured-here g e = rw (zip-next n d b s nan i p q r h, eq-eqb (getD d i 0) g e)
-
-    pub measured-later : (g : ℕ) → (getD d i 0 ≡ g → ⊥) → measures g (drop i (zip n d b s)) ≡ measures g (drop (i + 1) (zip n d b s))
-    unfolding measures
-    measured-later g e = rw (add-one, zip-next n d b s nan i p q r h, ne-eqb (getD d i 0) g e)
-
-    pub range-here : (g : ℕ) (range : BatchRange) → getD d i 0 ≡ g → rangeFrom range (ofDepth g (drop i (zip n d b s))) ≡ rangeFrom (widened range (getD b i 0)) (ofDepth g (drop (i + 1) (zip n d b s)))
-    unfolding ofDepth rangeFrom
-    range-here g range e = rw (add-one, zip-next n d b s nan i p q r h, eq-eqb (getD d i 0) g e)
-
-    pub range-other : (g : ℕ) (range : BatchRange) → (getD d i 0 ≡ g → ⊥) → rangeFrom range (ofDepth g (drop i (zip n d b s))) ≡ rangeFrom range (ofDepth g (drop (i + 1) (zip n d b s)))
-    unfolding ofDepth rangeFrom
-    range-other g range e = rw (add-one, zip-next n d b s nan i p q r h, ne-eqb (getD d i 0) g e)
-
   pub after-first : after (getD d 0 0) (getD b 0 0) (drop 1 (zip n d b s)) ≡ ordered (zip n d b s)
   after-first = after-all d b s n (zip n d b s) refl (λ h. zip-next n d b s nan 0 p q r h) (λ h. drop-of-length-le (zip n d b s) {i = 0} (omega (arith, zip-length n d b s p q r)))
 
@@ -108,45 +86,3 @@ module _ (n : ℕ) (d b : List ℕ) (s : List Float) (p : n ≤ length d) (q : n
     pub order-end : (g a : ℕ) → after g a (drop i (zip n d b s)) ≡ true
     unfolding ordered falls
     order-end g a = rw none
-
-    pub measured-end : (g : ℕ) → measures g (drop i (zip n d b s)) ≡ false
-    unfolding measures
-    measured-end g = rw none
-
-    pub range-end : (g : ℕ) (range : BatchRange) → rangeFrom range (ofDepth g (drop i (zip n d b s))) ≡ range
-    unfolding ofDepth rangeFrom
-    range-end g range = rw none
-
--- ---- the nearest depths
-
--- the depths of the rows are the first of the column
-pub depths-are : (n : ℕ) (d b : List ℕ) (s : List Float) → n ≤ length d → n ≤ length b → n ≤ length s → map (λ r. r .depth) (zip n d b s) ≡ take n d
-unfolding zip
-depths-are zero d b s p q r = refl
-depths-are (suc n) [] b s p q r = absurd (not-suc-le-zero p)
-depths-are (suc n) (x ∷ d) [] s p q r = absurd (not-suc-le-zero q)
-depths-are (suc n) (x ∷ d) (y ∷ b) [] p q r = absurd (not-suc-le-zero r)
-depths-are (suc n) (x ∷ d) (y ∷ b) (z ∷ s) p q r = ap (λ l. x ∷ l) (depths-are n d b s (le-of-suc-le-suc p) (le-of-suc-le-suc q) (le-of-suc-le-suc r))
-
-module _ (n : ℕ) (d : List ℕ) (p : n ≤ length d) (g : Float) (best : Depth) (i : ℕ) where
-  next-depth : i < n → drop i (take n d) ≡ getD d i 0 ∷ drop (i + 1) (take n d)
-  next-depth h = drop-cons (take n d) i 0 (omega (arith, length-take-le n d p)) ∙ rw (add-one, getD-take n d i 0 h)
-
-  no-depth : n ≤ i → drop i (take n d) ≡ []
-  no-depth h = drop-of-length-le (take n d) {i = i} (omega (arith, length-take-le n d p))
-
-  pub deepest-turn : i < n → deepest g best (drop i (take n d)) ≡ deepest g (deeper g best (getD d i 0)) (drop (i + 1) (take n d))
-  unfolding deepest
-  deepest-turn h = rw (next-depth h)
-
-  pub deepest-end : n ≤ i → deepest g best (drop i (take n d)) ≡ best
-  unfolding deepest
-  deepest-end h = rw (no-depth h)
-
-  pub shallowest-turn : i < n → shallowest g best (drop i (take n d)) ≡ shallowest g (shallower g best (getD d i 0)) (drop (i + 1) (take n d))
-  unfolding shallowest
-  shallowest-turn h = rw (next-depth h)
-
-  pub shallowest-end : n ≤ i → shallowest g best (drop i (take n d)) ≡ best
-  unfolding shallowest
-  shallowest-end h = rw (no-depth h)

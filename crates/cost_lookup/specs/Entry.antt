@@ -7,21 +7,22 @@ use lib.ListN.{length, replicate}
 use lib.Ieee.{Float, binary64, ofBits, neg}
 use Rattle.float.specs.Floats.{f0}
 use Rattle.float.specs.Range.{inSignedRange}
-use Rattle.cost_lookup.specs.declared.answer.Time.{Time}
-use Rattle.cost_lookup.specs.declared.answer.Time.the-variants.{Seconds, Unmeasured as NoTime, Refused as TimeRefused}
-use Rattle.cost_lookup.specs.declared.answer.Measured.{Measured}
-use Rattle.cost_lookup.specs.declared.answer.Measured.the-variants.{Yes, No, Refused as MeasuredRefused}
-use Rattle.cost_lookup.specs.declared.answer.BatchRange.{BatchRange}
-use Rattle.cost_lookup.specs.declared.answer.BatchRange.the-variants.{Between, Unmeasured as NoRange, Refused as RangeRefused}
-use Rattle.cost_lookup.specs.declared.answer.MaxBatch.{MaxBatch}
-use Rattle.cost_lookup.specs.declared.answer.MaxBatch.the-variants.{Batch, Unmeasured as NoBatch, Refused as BatchRefused}
+use Rattle.step_times.specs.declared.Time.{Time}
+use Rattle.step_times.specs.declared.Time.the-variants.{Seconds, Unmeasured as NoTime, Refused as TimeRefused}
+use Rattle.batch_ranges.specs.declared.Measured.{Measured}
+use Rattle.batch_ranges.specs.declared.Measured.the-variants.{Yes, No, Refused as MeasuredRefused}
+use Rattle.batch_ranges.specs.declared.BatchRange.{BatchRange}
+use Rattle.batch_ranges.specs.declared.BatchRange.the-variants.{Between, Unmeasured as NoRange, Refused as RangeRefused}
+use Rattle.batch_ranges.specs.declared.MaxBatch.{MaxBatch}
+use Rattle.batch_ranges.specs.declared.MaxBatch.the-variants.{Batch, Unmeasured as NoBatch, Refused as BatchRefused}
 use Rattle.cost_lookup.specs.declared.answer.PriceCurve.{PriceCurve}
+use Rattle.refusals.specs.Refusals.{firstOf}
 use Rattle.cost_rows.specs.Table.{Row, most, zip}
 use Rattle.cost_rows.specs.Lawful.{lawful}
-use Rattle.cost_lookup.specs.Lookup.{stepTime}
-use Rattle.cost_lookup.specs.Range.{hasDraft, rangeOf, maxBatch}
-use Rattle.cost_lookup.specs.Between.{stepTimeFrac}
-use Rattle.cost_lookup.specs.Prices.{prices}
+use Rattle.step_times.specs.Times.{stepTime}
+use Rattle.batch_ranges.specs.Range.{hasDraft, rangeOf, maxBatch}
+use Rattle.step_times.specs.Between.{stepTimeFrac}
+use Rattle.step_times.specs.Prices.{prices}
 
 -- ---- what is refused
 
@@ -40,11 +41,6 @@ farthest = ofBits binary64 0x41cd_cd65_0000_0000
 -- within 10 ^ 9 of zero, to either side
 abbrev pub deltaRefusal : Float → ℕ
 deltaRefusal kv = cond (inSignedRange (neg farthest) farthest kv) 0 15
-
--- the first of two refusals, where 0 is none
-abbrev pub firstOf : ℕ → ℕ → ℕ
-firstOf zero second = second
-firstOf (suc first) second = suc first
 
 -- an answer, unless there is a refusal
 abbrev pub unless : {A : Type 0} → ℕ → (ℕ → A) → A → A

@@ -1,18 +1,13 @@
 // The measured cost table: what a step took, by draft depth and batch. It is lent as three columns, depths, batches and seconds,
 // and how many rows they hold. Every function takes every column and number.
 pub mod answer;
-mod frac;
-pub mod inner;
 mod lent;
-mod lookup;
-mod prices;
-mod range;
 
-use answer::BatchRange;
-use answer::MaxBatch;
-use answer::Measured;
 use answer::PriceCurve;
-use answer::Time;
+use batch_ranges::BatchRange;
+use batch_ranges::MaxBatch;
+use batch_ranges::Measured;
+use step_times::Time;
 ghost use mathlib.Core.Path.{_≡_};
 ghost use Rattle.cost_lookup.specs.Entry.{tableRefusal, deltaRefusal, curveRefusal, stepTimeAt, stepTimeFracAt, hasDraftAt, batchRangeAt, maxBatchAt, priceCurveAt};
 
@@ -57,7 +52,7 @@ pub fn step_time(
     if 0 < refusal {
         return Time::Refused(refusal);
     }
-    inner::step_time(depths, batches, seconds, rows, batch, depth)
+    step_times::inner::step_time(depths, batches, seconds, rows, batch, depth)
 }
 
 // Whether some row has the depth.
@@ -74,7 +69,7 @@ pub fn has_draft(
     if 0 < refusal {
         return Measured::Refused(refusal);
     }
-    inner::has_draft(depths, batches, seconds, rows, depth)
+    batch_ranges::inner::has_draft(depths, batches, seconds, rows, depth)
 }
 
 // The seconds at a depth between the measured ones; nothing outside them, and for a depth that is not finite or below zero.
@@ -92,7 +87,7 @@ pub fn step_time_frac(
     if 0 < refusal {
         return Time::Refused(refusal);
     }
-    inner::step_time_frac(depths, batches, seconds, rows, batch, g)
+    step_times::inner::step_time_frac(depths, batches, seconds, rows, batch, g)
 }
 
 // The first and the last batch of the depth's rows.
@@ -109,7 +104,7 @@ pub fn batch_range(
     if 0 < refusal {
         return BatchRange::Refused(refusal);
     }
-    inner::batch_range(depths, batches, seconds, rows, depth)
+    batch_ranges::inner::batch_range(depths, batches, seconds, rows, depth)
 }
 
 // The last batch of the depth's rows.
@@ -126,7 +121,7 @@ pub fn max_batch(
     if 0 < refusal {
         return MaxBatch::Refused(refusal);
     }
-    inner::max_batch(depths, batches, seconds, rows, depth)
+    batch_ranges::inner::max_batch(depths, batches, seconds, rows, depth)
 }
 
 // What is refused of a price's addition: 15 where it is not within 10^9 of zero; else 0.
@@ -175,7 +170,7 @@ pub fn price_curve(
             prices: [0.0; 65],
         };
     }
-    let prices = inner::prices(depths, batches, seconds, rows, batch, kv_delta);
+    let prices = step_times::inner::prices(depths, batches, seconds, rows, batch, kv_delta);
     PriceCurve {
         refusal: 0,
         prices: prices,

@@ -12,7 +12,7 @@ use lib.Seq.{take-at}
 use lib.Ieee.{Float}
 use Rattle.text.specs.Lines.{lines, firstLine, afterLine}
 use Rattle.text.specs.Fields.{fields}
-use Rattle.text.specs.Blocks.{allAscii}
+use Rattle.blocks.specs.Blocks.{allAscii}
 use Rattle.text.proofs.Walk.{line-first}
 use Rattle.cost_rows.specs.Table.{Row, table, counted, over, Written}
 use Rattle.cost_rows.specs.Order.{sorted}

@@ -5,7 +5,8 @@ use mathlib.Core.List.{List, [], _∷_, _++_}
 use Prim.Native.Nat.{ℕ}
 use lib.IntN.{pos}
 use lib.Ieee.{Float, fin, nan, round, lt, mul, ofBits, binary64}
-use Rattle.numeral.specs.Spelling.{wholeOf, decimalOf}
+use Rattle.numeral.specs.Spelling.{wholeOf}
+use Rattle.decimals.specs.Decimals.{decimalOf}
 use Rattle.cost_rows.specs.Table.{over}
 use Rattle.cost_rows.specs.Order.{sorted, insert, earlier, before}
 use Rattle.cost_rows.specs.Prune.{kept, dropped, above}

@@ -11,16 +11,17 @@ use lib.Ieee.{Float, lt}
 use lib.ListN.{length, getD}
 use Rattle.text.specs.Lines.{lines}
 use Rattle.text.specs.Fields.{fields}
-use Rattle.text.specs.Trim.{trimmed}
-use Rattle.text.specs.Blocks.{allAscii}
+use Rattle.trimming.specs.Trim.{trimmed}
+use Rattle.blocks.specs.Blocks.{allAscii}
 use Rattle.text.proofs.Laws.{fields-some}
 use Rattle.text.proofs.Walk.{lines-none}
 use Rattle.float.specs.Floats.{f0}
 use Rattle.cost_rows.specs.Table.{Row}
 use Rattle.numeral.specs.declared.answer.Whole.{Whole}
 use Rattle.numeral.specs.declared.answer.Whole.the-variants.{Value as WholeValue, Malformed as NoWhole}
-use Rattle.numeral.specs.declared.answer.Decimal.{Decimal}
-use Rattle.numeral.specs.Spelling.{wholeOf, decimalOf}
+use Rattle.decimals.specs.declared.Decimal.{Decimal}
+use Rattle.numeral.specs.Spelling.{wholeOf}
+use Rattle.decimals.specs.Decimals.{decimalOf}
 use Rattle.measured.specs.declared.line.Line.{Line}
 use Rattle.measured.specs.declared.line.Line.the-variants.{Blank, Row as RowSaid, Refused as Wrong}
 use Rattle.measured.specs.declared.Answer.{Answer}

@@ -10,13 +10,13 @@ use lib.Ieee.{Float, lt}
 use lib.ListN.{length, drop}
 use Rattle.text.specs.Lines.{lines}
 use Rattle.text.specs.Fields.{fields}
-use Rattle.text.specs.Trim.{trimmed}
-use Rattle.text.specs.Blocks.{allAscii}
+use Rattle.trimming.specs.Trim.{trimmed}
+use Rattle.blocks.specs.Blocks.{allAscii}
 use Rattle.float.specs.Floats.{f0}
 use Rattle.numeral.specs.declared.answer.Whole.{Whole}
 use Rattle.numeral.specs.declared.answer.Whole.the-variants.{Value as WholeValue, Malformed as NoWhole}
-use Rattle.numeral.specs.declared.answer.Decimal.{Decimal}
-use Rattle.numeral.specs.declared.answer.Decimal.the-variants.{Value, Malformed, TooLong}
+use Rattle.decimals.specs.declared.Decimal.{Decimal}
+use Rattle.decimals.specs.declared.Decimal.the-variants.{Value, Malformed, TooLong}
 use Rattle.cost_rows.specs.Table.{Row, zip, over}
 use Rattle.cost_rows.specs.Order.{sorted, ordered}
 use Rattle.cost_rows.specs.Prune.{kept}

@@ -12,16 +12,16 @@ use lib.Ieee.Order.{round-mono}
 use lib.Ieee.Scale.{grid, round-val, round-under}
 use lib.ListN.{length, getD}
 use Rattle.text.specs.Fields.{fields}
-use Rattle.text.specs.Trim.{trimmed}
+use Rattle.trimming.specs.Trim.{trimmed}
 use Rattle.float.specs.Floats.{f0}
 use Rattle.float.proofs.Classes.{clash}
 use Rattle.numeral.specs.declared.answer.Whole.{Whole}
 use Rattle.numeral.specs.declared.answer.Whole.the-variants.{Value as WholeValue, Malformed as NoWhole}
-use Rattle.numeral.specs.declared.answer.Decimal.{Decimal}
-use Rattle.numeral.specs.declared.answer.Decimal.the-variants.{Value, Malformed, TooLong}
-use Rattle.numeral.specs.Spelling.{decimalOf}
-use Rattle.numeral.proofs.Rounding.{round-neg, quotient-finite}
-use Rattle.numeral.proofs.Decimals.{Read, decimal-read}
+use Rattle.decimals.specs.declared.Decimal.{Decimal}
+use Rattle.decimals.specs.declared.Decimal.the-variants.{Value, Malformed, TooLong}
+use Rattle.decimals.specs.Decimals.{decimalOf}
+use Rattle.decimals.proofs.Rounding.{round-neg, quotient-finite}
+use Rattle.decimals.proofs.Decimals.{Read, decimal-read}
 use Rattle.cost_rows.specs.Table.{Row}
 use Rattle.cost_rows.specs.Order.{earlier, insert, sorted}
 use Rattle.cost_rows.specs.Prune.{dropped, kept}

@@ -6,8 +6,8 @@ use lib.Dec.{leb, eqb}
 use lib.ListN.{length, getD}
 use Rattle.text.specs.Lines.{lines}
 use Rattle.text.specs.Fields.{fields, sameText}
-use Rattle.text.specs.Trim.{trimmed}
-use Rattle.text.specs.Blocks.{allAscii}
+use Rattle.trimming.specs.Trim.{trimmed}
+use Rattle.blocks.specs.Blocks.{allAscii}
 use Rattle.measured.specs.declared.line.Line.{Line}
 use Rattle.measured.specs.declared.line.Line.the-variants.{Blank, Row, Refused as Wrong}
 use Rattle.measured.specs.declared.Answer.{Answer}

@@ -6,13 +6,14 @@ use lib.Dec.{eqb}
 use lib.Ieee.{Float, lt}
 use lib.ListN.{length, getD}
 use Rattle.text.specs.Fields.{fields}
-use Rattle.text.specs.Trim.{trimmed}
+use Rattle.trimming.specs.Trim.{trimmed}
 use Rattle.float.specs.Floats.{f0}
 use Rattle.numeral.specs.declared.answer.Whole.{Whole}
 use Rattle.numeral.specs.declared.answer.Whole.the-variants.{Value as WholeValue, Malformed as NoWhole}
-use Rattle.numeral.specs.declared.answer.Decimal.{Decimal}
-use Rattle.numeral.specs.declared.answer.Decimal.the-variants.{Value, Malformed, TooLong}
-use Rattle.numeral.specs.Spelling.{wholeOf, decimalOf}
+use Rattle.decimals.specs.declared.Decimal.{Decimal}
+use Rattle.decimals.specs.declared.Decimal.the-variants.{Value, Malformed, TooLong}
+use Rattle.numeral.specs.Spelling.{wholeOf}
+use Rattle.decimals.specs.Decimals.{decimalOf}
 use Rattle.measured.specs.declared.line.Line.{Line}
 use Rattle.measured.specs.declared.line.Line.the-variants.{Blank, Row, Refused}
 

@@ -1,5 +1,6 @@
 // What an accepted text leaves in the columns. Nothing here refuses but the one who finds no row left.
 use crate::Answer;
+use cost_order::inner as order;
 use cost_rows::inner;
 ghost use mathlib.Core.Path.{_≡_};
 ghost use mathlib.Core.List.{_++_};
@@ -24,9 +25,9 @@ pub fn put(
     ensures batches { λ _. ⌜ now (batches .exit) ≡ now («from_batches» .entry) ++ drop (length (now («from_batches» .entry))) (now (batches .entry)) ⌝ }
     ensures seconds { λ _. ⌜ now (seconds .exit) ≡ now («from_seconds» .entry) ++ drop (length (now («from_seconds» .entry))) (now (seconds .entry)) ⌝ }
 {
-    inner::copy_numbers(from_depths, depths);
-    inner::copy_numbers(from_batches, batches);
-    inner::copy_seconds(from_seconds, seconds);
+    order::copy_numbers(from_depths, depths);
+    order::copy_numbers(from_batches, batches);
+    order::copy_seconds(from_seconds, seconds);
 }
 
 // Puts the rows in order and drops those that are above the next one, and answers how many are left.
@@ -34,7 +35,7 @@ pub fn clean(depths: &mut [u32], batches: &mut [u32], seconds: &mut [f64], rows:
     ensures left { λ r. ⌜ r ≡ length (kept (sorted (table rows (now (depths .entry)) (now (batches .entry)) (now (seconds .entry))))) ⌝ }
     ensures columns { λ _. ⌜ Cleaned (sorted (table rows (now (depths .entry)) (now (batches .entry)) (now (seconds .entry)))) (now (depths .entry)) (now (batches .entry)) (now (seconds .entry)) (now (depths .exit)) (now (batches .exit)) (now (seconds .exit)) ⌝ }
 {
-    inner::arrange(depths, batches, seconds, rows);
+    order::arrange(depths, batches, seconds, rows);
     inner::sanitised(depths, batches, seconds, rows)
 }
 

@@ -10,7 +10,7 @@ ghost use Prim.Native.Nat.{_≤_};
 ghost use lib.ListN.{length, getD, drop};
 ghost use Rattle.text.specs.Lines.{lines};
 ghost use Rattle.text.specs.Fields.{fields, sameText};
-ghost use Rattle.text.specs.Trim.{trimmed};
+ghost use Rattle.trimming.specs.Trim.{trimmed};
 ghost use Rattle.measured.specs.Judge.{headerRight, judgeRows, judgeLines, judged};
 ghost use Rattle.measured.specs.Fill.{rowsOf, PutAt};
 
@@ -18,7 +18,7 @@ ghost use Rattle.measured.specs.Fill.{rowsOf, PutAt};
 fn is_named(header: &[u8], place: usize, name: &[u8]) -> bool
     ensures { λ r. ⌜ r ≡ sameText (trimmed (getD (fields (now (header .entry))) place [])) (now (name .entry)) ⌝ }
 {
-    text::same(text::trim(text::field(header, place)), name)
+    text::same(trimming::trim(text::field(header, place)), name)
 }
 
 // Whether the header has the three columns of a cost table.
@@ -114,7 +114,7 @@ pub fn judge(
     ensures answer { λ r. ⌜ r ≡ judged room (now (text .entry)) ⌝ }
     ensures rows { λ r. ⌜ PutAt r (rowsOf (drop 1 (lines (now (text .entry))))) (now (depths .exit)) (now (batches .exit)) (now (seconds .exit)) ⌝ }
 {
-    if !text::blocks::is_ascii(text) {
+    if !blocks::is_ascii(text) {
         return Answer::Refused { number: 1, row: 0 };
     }
     if text.len() == 0 {

@@ -1,10 +1,11 @@
 // What a line of a cost table says.
-use numeral::answer::Decimal;
+use decimals::Decimal;
 use numeral::answer::Whole;
 ghost use mathlib.Core.Path.{_≡_};
 ghost use Rattle.text.specs.Fields.{fields};
-ghost use Rattle.text.specs.Trim.{trimmed};
-ghost use Rattle.numeral.specs.Spelling.{wholeOf, decimalOf};
+ghost use Rattle.trimming.specs.Trim.{trimmed};
+ghost use Rattle.numeral.specs.Spelling.{wholeOf};
+ghost use Rattle.decimals.specs.Decimals.{decimalOf};
 ghost use Rattle.measured.specs.Line.{valuesRead, numbersRead, rowRead, lineRead};
 
 // Nothing, a row, or the number of what is wrong with it.
@@ -35,13 +36,13 @@ fn row_of(batch: u32, tokens: u32, time: f64) -> Line
 fn fields_read(batch: &[u8], tokens: &[u8], time: &[u8]) -> Line
     ensures { λ r. ⌜ r ≡ numbersRead (wholeOf (trimmed (now (batch .entry)))) (wholeOf (trimmed (now (tokens .entry)))) (decimalOf (trimmed (now (time .entry)))) ⌝ }
 {
-    let Whole::Value(batch_size) = numeral::whole(text::trim(batch)) else {
+    let Whole::Value(batch_size) = numeral::whole(trimming::trim(batch)) else {
         return Line::Refused(5);
     };
-    let Whole::Value(draft_tokens) = numeral::whole(text::trim(tokens)) else {
+    let Whole::Value(draft_tokens) = numeral::whole(trimming::trim(tokens)) else {
         return Line::Refused(5);
     };
-    match numeral::decimal(text::trim(time)) {
+    match numeral::decimal(trimming::trim(time)) {
         Decimal::Malformed => Line::Refused(6),
         Decimal::TooLong => Line::Refused(7),
         Decimal::Value(seconds) => row_of(batch_size, draft_tokens, seconds),
@@ -52,19 +53,19 @@ fn fields_read(batch: &[u8], tokens: &[u8], time: &[u8]) -> Line
 fn read_row(line: &[u8]) -> Line
     ensures { λ r. ⌜ r ≡ rowRead (fields (now (line .entry))) ⌝ }
 {
-    let first = text::find(line, b',');
+    let first = blocks::near::find(line, b',');
     if line.len() <= first {
         return Line::Refused(4);
     }
     let from = first + 1;
     let rest = &line[from..];
-    let second = text::find(rest, b',');
+    let second = blocks::near::find(rest, b',');
     if rest.len() <= second {
         return Line::Refused(4);
     }
     let behind = second + 1;
     let last = &rest[behind..];
-    if text::find(last, b',') < last.len() {
+    if blocks::near::find(last, b',') < last.len() {
         return Line::Refused(4);
     }
     fields_read(&line[..first], &rest[..second], last)
@@ -74,7 +75,7 @@ fn read_row(line: &[u8]) -> Line
 pub fn read_line(line: &[u8]) -> Line
     ensures { λ r. ⌜ r ≡ lineRead (now (line .entry)) ⌝ }
 {
-    if text::trim(line).len() == 0 {
+    if trimming::trim(line).len() == 0 {
         return Line::Blank;
     }
     read_row(line)

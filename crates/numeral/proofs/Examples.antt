@@ -5,8 +5,9 @@ use mathlib.Core.List.{[], _∷_}
 use lib.IntN.{pos, negsuc}
 use lib.Ieee.{fin, round}
 use Rattle.numeral.specs.declared.answer.Whole.the-variants.{Value as WholeValue, Malformed as NoWhole}
-use Rattle.numeral.specs.declared.answer.Decimal.the-variants.{Value, Malformed, TooLong}
-use Rattle.numeral.specs.Spelling.{wholeOf, decimalOf}
+use Rattle.decimals.specs.declared.Decimal.the-variants.{Value, Malformed, TooLong}
+use Rattle.numeral.specs.Spelling.{wholeOf}
+use Rattle.decimals.specs.Decimals.{decimalOf}
 
 -- -0
 minus-zero : decimalOf (45 ∷ 48 ∷ []) ≡ Value (fin true 0 (pos 0))

@@ -1,7 +1,8 @@
 // An answer as a column of a case: sixteen hexadecimal digits, or dashes and the refusal's number, for a bank with its row.
-use bank::Answer;
-use speculative::acceptance::Expected;
-use speculative::acceptance::Sample;
+use acceptance::Expected;
+use acceptance::Sample;
+use bank_judge::Answer;
+use cases::sums::Sums;
 
 pub struct Column {
     pub bytes: [u8; 16],
@@ -28,6 +29,13 @@ impl Column {
 // Whether a column of the Rust is an answer.
 pub fn is_answer(column: &[u8]) -> bool {
     !check::same(column, b"----------------")
+}
+
+// Whether two columns of a case are the sums.
+pub fn are_sums(sums: Sums, first: &[u8], second: &[u8]) -> bool {
+    let ours = of_value(sums.first);
+    let all = of_value(sums.second);
+    ours.is(first) && all.is(second)
 }
 
 pub fn of_bank(answer: Answer) -> Column {

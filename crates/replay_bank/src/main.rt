@@ -3,7 +3,6 @@
 // more.
 mod column;
 mod model;
-mod sums;
 mod tally;
 mod trace;
 mod words;
@@ -54,13 +53,13 @@ fn replay_file(name: &[u8]) {
 
 // The first line says what space the cases are from; the cases follow.
 fn replay(fd: i32, room: &mut [u8]) {
-    let mut end = cases::refill(fd, room, 0, 0);
-    let mut at = cases::print_line(&room[..end]);
+    let mut end = case_files::refill(fd, room, 0, 0);
+    let mut at = case_files::print_line(&room[..end]);
     let mut tally = Tally::new();
     let mut fillings = 0u64;
     while fillings < FILLINGS {
         fillings += 1;
-        end = cases::refill(fd, room, at, end);
+        end = case_files::refill(fd, room, at, end);
         if end == 0 {
             tally.print();
             return;
@@ -160,7 +159,7 @@ fn bank_in(tally: Tally, case: &[u8]) -> Tally
     let sums = run.sums;
     let rust = &case[53..69];
     let agrees = answer.agrees(&case[2..18], rust);
-    let left = sums.are(&case[19..35], &case[36..52]);
+    let left = column::are_sums(sums, &case[19..35], &case[36..52]);
     tally
         .bank(answer.is_value, column::is_answer(rust))
         .judged(agrees && left)

@@ -4,8 +4,7 @@
 use crate::column;
 use crate::column::Column;
 use crate::words;
-use speculative::acceptance;
-use speculative::acceptance::AcceptanceModel;
+use acceptance::AcceptanceModel;
 ghost use Prim.Native.Nat.{_≤_};
 ghost use lib.ListN.{length};
 

@@ -1,7 +1,7 @@
 // A case of a bank: `b ANSWER SUM1 SUM2 RUST COMMITS SIGNALS CURVE LENGTH TEXT`.
 use crate::column;
 use crate::column::Column;
-use crate::sums::Sums;
+use cases::sums::Sums;
 ghost use Prim.Native.Nat.{_≤_};
 ghost use lib.ListN.{length};
 

@@ -5,15 +5,13 @@ use cases::answers;
 use cases::lists;
 use cases::tally;
 use cases::words;
-use speculative::switch;
-use speculative::switch::MaxStep;
-use speculative::switch::SwitchConstraints;
+use switch_settings::MaxStep;
+use switch_settings::SwitchConstraints;
 use switching::Answer;
 use switching::Collected;
 use switching::Decided;
 use switching::Stall;
 use switching::Switching;
-use switching::walk;
 ghost use Prim.Native.Nat.{_≤_};
 ghost use lib.ListN.{length};
 
@@ -65,7 +63,7 @@ fn put_walk(input: &[u64], candidates: &[u32], ours: &mut [u64]) -> usize
     answers::two(
         ours,
         0,
-        walk::walk_candidates(candidates, width, target, step) as u64,
+        width_walk::walk_candidates(candidates, width, target, step) as u64,
     )
 }
 
@@ -104,7 +102,7 @@ fn decided(kind: u8, input: &[u64], curve: &[f64]) -> Decided {
     let target = words::whole_at(input, 3);
     let constraints = constraints_at(input, 4, 5, 6, 7);
     if kind == b'l' {
-        return switching::lend_and_decide(held, curve, target, constraints);
+        return switching_lent::lend_and_decide(held, curve, target, constraints);
     }
     switching::decide(held, curve, target, constraints)
 }
@@ -142,7 +140,7 @@ pub fn setting(kind: u8, input: &[u64], ours: &mut [u64]) -> usize
     if kind == b'u' {
         return answers::one(
             ours,
-            switch::switch_refusal(constraints_at(input, 0, 1, 2, 3)),
+            switch_settings::switch_refusal(constraints_at(input, 0, 1, 2, 3)),
         );
     }
     if kind == b'a' {
@@ -174,7 +172,7 @@ fn record(kind: u8, held: Switching, ours: &mut [u64]) -> usize
         return put_collected(ours, switching::collect(held));
     }
     if kind == b'n' {
-        return put_collected(ours, switching::lend_and_collect(held));
+        return put_collected(ours, switching_lent::lend_and_collect(held));
     }
     0
 }

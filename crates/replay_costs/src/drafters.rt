@@ -1,13 +1,11 @@
-// Drafter costs. A drafter is six words: its kind (0 Fraction, 1 Autoregressive, 2 BlockParallel), two floats, three counts. The words of a
-// cost are the drafter, gamma, batch, the three rates, the verify cost, and two lists: the widths and the loaded experts.
+// Drafter costs. The words of a cost are a drafter, gamma, batch, three rates, the verify cost, and two lists: the widths and the loaded
+// experts; `plan_words::drafters` says what the words of a drafter and of rates are.
 use cases::answers;
 use cases::lists;
 use cases::tally;
 use cases::words;
 use speculative::drafter;
 use speculative::drafter::DraftTime;
-use speculative::drafter::DrafterCost;
-use speculative::drafter::Rates;
 ghost use Prim.Native.Nat.{_≤_};
 ghost use lib.ListN.{length};
 
@@ -43,9 +41,12 @@ pub fn setting(kind: u8, input: &[u64], ours: &mut [u64]) -> usize
     ensures { λ r. ⌜ r ≤ length (now (ours .exit)) ⌝ }
 {
     if kind == b'w' {
-        return answers::one(ours, drafter::rates_refusal(rates_at(input, 0, 1, 2)));
+        return answers::one(
+            ours,
+            drafter::rates_refusal(plan_words::drafters::rates_at(input, 0, 1, 2)),
+        );
     }
-    let head = drafter_of(input);
+    let head = plan_words::drafters::drafter_of(input);
     if kind == b'v' {
         return answers::one(ours, drafter::drafter_refusal(head));
     }
@@ -54,36 +55,6 @@ pub fn setting(kind: u8, input: &[u64], ours: &mut [u64]) -> usize
 
 fn number(is_so: bool) -> u64 {
     if is_so { 1 } else { 0 }
-}
-
-fn rates_at(input: &[u64], peak: usize, bw: usize, kv_delta: usize) -> Rates {
-    Rates {
-        peak: words::float_at(input, peak),
-        bw: words::float_at(input, bw),
-        kv_delta: words::float_at(input, kv_delta),
-    }
-}
-
-fn drafter_of(input: &[u64]) -> DrafterCost {
-    let kind = words::at(input, 0);
-    if kind == 0 {
-        return DrafterCost::Fraction {
-            frac: words::float_at(input, 1),
-        };
-    }
-    if kind == 1 {
-        return DrafterCost::Autoregressive {
-            dense_params: words::float_at(input, 1),
-            expert_params: words::float_at(input, 2),
-            num_experts: words::whole_at(input, 3),
-            experts_per_tok: words::whole_at(input, 4),
-            shared_experts: words::whole_at(input, 5),
-        };
-    }
-    DrafterCost::BlockParallel {
-        params: words::float_at(input, 1),
-        block: words::whole_at(input, 3),
-    }
 }
 
 // Lends the lists to the cost of a kind.
@@ -103,9 +74,9 @@ pub fn cost(
 }
 
 fn ask(kind: u8, input: &[u64], widths: &[u32], loaded: &[f64]) -> DraftTime {
-    let head = drafter_of(input);
+    let head = plan_words::drafters::drafter_of(input);
     let batch = words::whole_at(input, 7);
-    let rates = rates_at(input, 8, 9, 10);
+    let rates = plan_words::drafters::rates_at(input, 8, 9, 10);
     let verify_c = words::float_at(input, 11);
     if kind == b'g' {
         return drafter::ragged_seconds(head, widths, rates, verify_c, loaded);

@@ -1,13 +1,13 @@
 // Lookups in a lent cost table. The words are what is asked, two numbers, then the rows and the three columns, each a list.
+use batch_ranges::BatchRange;
+use batch_ranges::MaxBatch;
+use batch_ranges::Measured;
 use cases::answers;
 use cases::lists;
 use cases::tally;
 use cases::words;
-use cost_lookup::answer::BatchRange;
-use cost_lookup::answer::MaxBatch;
-use cost_lookup::answer::Measured;
 use cost_lookup::answer::PriceCurve;
-use cost_lookup::answer::Time;
+use step_times::Time;
 ghost use Prim.Native.Nat.{_≤_};
 ghost use lib.ListN.{length};
 

@@ -69,8 +69,8 @@ fn replay(
     floats: &mut [f64],
 ) {
     let mut counts = [0u64; 78];
-    let mut end = cases::refill(fd, room, 0, 0);
-    let mut at = cases::print_line(&room[..end]);
+    let mut end = case_files::refill(fd, room, 0, 0);
+    let mut at = case_files::print_line(&room[..end]);
     let mut turns = 0u64;
     while turns < MOST_CASES {
         turns += 1;

@@ -1,5 +1,5 @@
 // An answer as a column of a case: sixteen hexadecimal digits, or fifteen dashes and the refusal's number.
-use numeral::answer::Decimal;
+use decimals::Decimal;
 use numeral::answer::Whole;
 ghost use Prim.Native.Nat.{_<_};
 

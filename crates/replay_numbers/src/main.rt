@@ -46,13 +46,13 @@ fn replay_file(name: &[u8]) {
 
 // The first line says what space the cases are from; the cases follow.
 fn replay(fd: i32, room: &mut [u8]) {
-    let mut end = cases::refill(fd, room, 0, 0);
-    let mut at = cases::print_line(&room[..end]);
+    let mut end = case_files::refill(fd, room, 0, 0);
+    let mut at = case_files::print_line(&room[..end]);
     let mut tally = Tally::new();
     let mut fillings = 0u64;
     while fillings < FILLINGS {
         fillings += 1;
-        end = cases::refill(fd, room, at, end);
+        end = case_files::refill(fd, room, at, end);
         if end == 0 {
             tally.print();
             return;

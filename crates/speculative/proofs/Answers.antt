@@ -12,8 +12,9 @@ use Rattle.speculative.specs.declared.drafter.Rates.{Rates}
 use Rattle.speculative.specs.declared.drafter.DrafterCost.{DrafterCost}
 use Rattle.speculative.specs.declared.drafter.DraftTime.{DraftTime}
 use Rattle.speculative.specs.declared.drafter.DraftTime.the-variants.{Seconds, Refused}
-use Rattle.speculative.specs.Acceptance.{mostGamma}
-use Rattle.speculative.specs.Drafter.{mostBatch, drafterSeconds, loadedAt, passSeconds, raggedSeconds, allWidths, isVerifyCost, costRefusal, timeUnless, timeRefusal, draftSeconds, draftPass, draftRagged}
+use Rattle.acceptance.specs.Acceptance.{mostGamma}
+use Rattle.speculative.specs.Drafter.{mostBatch, drafterSeconds, loadedAt, passSeconds, raggedSeconds, costRefusal, timeUnless, timeRefusal, draftSeconds, draftPass, draftRagged}
+use Rattle.draft_inputs.specs.Inputs.{allWidths, isVerifyCost}
 use Rattle.speculative.proofs.Refusals.{cost-sized}
 
 refused : (r a : ℕ) (x : Float) → r ≡ a → 0 < r → Refused r ≡ timeUnless a x

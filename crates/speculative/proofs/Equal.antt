@@ -13,7 +13,8 @@ use Rattle.float.specs.Floats.{plus, times, f0, f1, whole, maxOf}
 use Rattle.speculative.specs.declared.drafter.Rates.{Rates}
 use Rattle.speculative.specs.declared.drafter.DrafterCost.{DrafterCost}
 use Rattle.speculative.specs.declared.drafter.DrafterCost.the-variants.{Fraction, Autoregressive, BlockParallel}
-use Rattle.speculative.specs.Drafter.{headPass, blockSeconds, kindSeconds, drafterSeconds, loadedAt, largest, stillDrafting, passSeconds, passesFrom, kindRagged, raggedSeconds}
+use Rattle.speculative.specs.Drafter.{headPass, blockSeconds, kindSeconds, drafterSeconds, loadedAt, passSeconds, passesFrom, kindRagged, raggedSeconds}
+use Rattle.draft_inputs.specs.Inputs.{largest, stillDrafting}
 
 largest-equal : (m g : ℕ) → largest (replicate (suc m) g) ≡ g
 unfolding largest

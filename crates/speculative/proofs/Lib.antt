@@ -1,6 +1,3 @@
-pub mod Judged
-pub mod Expectation
-pub mod Draws
 pub mod Refusals
 pub mod Pricing
 pub mod Answers

@@ -1,20 +1,19 @@
 -- The drafter's seconds: each way through the code, and widths that are all equal. Assumes nothing.
 use mathlib.Core.Path.{_≡_, refl, sym, ap, _∙_}
-use mathlib.Core.Bool.{Bool, true, false, cond}
-use mathlib.Core.List.{List, [], _∷_}
-use Prim.Native.Nat.{ℕ, zero, suc, _+_, _-_, _≤_, _<_, max}
+use mathlib.Core.Bool.{cond}
+use mathlib.Core.List.{List}
+use Prim.Native.Nat.{ℕ, _+_, _-_, _≤_, _<_}
 use native.Mathlib.Numerals.{add-one}
-use native.Mathlib.Omega.{arith}
-use borrow.Author.Tests.{le-leb, lt-leb, lt-ltb, le-ltb, eq-eqb, ne-eqb}
-use lib.Dec.{leb, ltb, eqb}
-use lib.ListN.{length, getD, drop, drop-of-length-le}
-use lib.Seq.{drop-cons}
+use borrow.Author.Tests.{lt-ltb, le-ltb, eq-eqb, ne-eqb}
+use lib.Dec.{ltb}
+use lib.ListN.{length, getD}
 use lib.Ieee.{Float, nan}
-use Rattle.float.specs.Floats.{plus, times, whole, f0}
+use Rattle.float.specs.Floats.{plus, whole, f0}
 use Rattle.speculative.specs.declared.drafter.Rates.{Rates}
 use Rattle.speculative.specs.declared.drafter.DrafterCost.{DrafterCost}
-use Rattle.speculative.specs.declared.drafter.DrafterCost.the-variants.{Fraction, Autoregressive, BlockParallel}
-use Rattle.speculative.specs.Drafter.{headPass, blockSeconds, kindSeconds, drafterSeconds, loadedAt, largest, stillDrafting, passSeconds, passAt, passesFrom, kindRagged, raggedSeconds}
+use Rattle.speculative.specs.declared.drafter.DrafterCost.the-variants.{Autoregressive}
+use Rattle.speculative.specs.Drafter.{kindSeconds, drafterSeconds, loadedAt, passSeconds, passAt, passesFrom, kindRagged, raggedSeconds}
+use Rattle.draft_inputs.specs.Inputs.{largest, stillDrafting}
 
 -- ---- one draft
 module _ (kind : DrafterCost) (gamma batch : ℕ) (rates : Rates) (verify loaded : Float) where
@@ -47,28 +46,6 @@ module _ (kind : DrafterCost) (dense expert : Float) (experts k shared batch : �
 
   pub pass-some : (r : Float) → (batch ≡ 0 → ⊥) → r ≡ drafterSeconds kind 1 batch rates f0 loaded → r ≡ passSeconds kind batch rates loaded
   pass-some r nz v = pass-of kind _ batch rates loaded r e (rw (ne-eqb batch 0 nz) (v ∙ ap (λ (d : DrafterCost). drafterSeconds d 1 batch rates f0 loaded) e))
-
--- ---- the largest width
-pub largest-next : (l : List ℕ) (i : ℕ) → i < length l → largest (drop i l) ≡ max (getD l i 0) (largest (drop (i + 1) l))
-unfolding largest
-largest-next l i h = rw (add-one i, drop-cons l i 0)
-
-pub largest-end : (l : List ℕ) (i : ℕ) → length l ≤ i → largest (drop i l) ≡ 0
-unfolding largest
-largest-end l i h = rw (drop-of-length-le l h)
-
--- ---- how many still draft
-pub counts : (l : List ℕ) (k i : ℕ) → i < length l → k ≤ getD l i 0 → stillDrafting (drop i l) k ≡ 1 + stillDrafting (drop (i + 1) l) k
-unfolding stillDrafting
-counts l k i h t = rw (add-one i, drop-cons l i 0, le-leb k (getD l i 0))
-
-pub passes : (l : List ℕ) (k i : ℕ) → i < length l → getD l i 0 < k → stillDrafting (drop i l) k ≡ 0 + stillDrafting (drop (i + 1) l) k
-unfolding stillDrafting
-passes l k i h t = rw (add-one i, drop-cons l i 0, lt-leb k (getD l i 0))
-
-pub counted-end : (l : List ℕ) (k i : ℕ) → length l ≤ i → stillDrafting (drop i l) k ≡ 0
-unfolding stillDrafting
-counted-end l k i h = rw (drop-of-length-le l h)
 
 -- ---- the passes
 module _ (kind : DrafterCost) (widths : List ℕ) (rates : Rates) (loaded : List Float) where

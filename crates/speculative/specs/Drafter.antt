@@ -1,14 +1,17 @@
 -- What producing the drafts costs, in seconds a step, in the Rust's order of operations; and what is refused.
 -- Assumes nothing.
-use Prim.Native.Nat.{ℕ, zero, suc, _+_, max}
-use mathlib.Core.Bool.{Bool, true, false, not, _&&_, _||_, cond}
-use mathlib.Core.List.{List, [], _∷_}
+use Prim.Native.Nat.{ℕ, zero, suc}
+use mathlib.Core.Bool.{Bool, true, false, _&&_, cond}
+use mathlib.Core.List.{List}
 use lib.Dec.{eqb, leb, ltb}
-use lib.ListN.{length, getD, take}
-use lib.Ieee.{Float, nan, neg, binary64, ofBits}
+use lib.ListN.{length, getD}
+use lib.Ieee.{Float, nan, neg}
 use Rattle.float.specs.Floats.{plus, times, over, f0, f1, f2, whole, maxOf}
 use Rattle.float.specs.Range.{inRange, inSignedRange}
-use Rattle.speculative.specs.Acceptance.{mostGamma, firstOf}
+use Rattle.acceptance.specs.Acceptance.{mostGamma}
+pub use Rattle.draft_inputs.specs.Inputs.{million, billion, quintillion, mostCount, isParams, isCount, isHead, isVerifyCost, allWidths, allLoaded, entriesRefusal}
+unfoldable pub use Rattle.draft_inputs.specs.Inputs.{largest, stillDrafting}
+use Rattle.refusals.specs.Refusals.{firstOf}
 use Rattle.speculative.specs.declared.drafter.Rates.{Rates}
 use Rattle.speculative.specs.declared.drafter.DrafterCost.{DrafterCost}
 use Rattle.speculative.specs.declared.drafter.DrafterCost.the-variants.{Fraction, Autoregressive, BlockParallel}
@@ -61,15 +64,6 @@ isBlock (BlockParallel params block) = true
 
 -- ---- widths that differ
 
-unfoldable pub largest : List ℕ → ℕ
-largest [] = 0
-largest (w ∷ ws) = max w (largest ws)
-
--- how many widths are k or more
-unfoldable pub stillDrafting : List ℕ → ℕ → ℕ
-stillDrafting [] k = 0
-stillDrafting (w ∷ ws) k = cond (leb k w) 1 0 + stillDrafting ws k
-
 -- one pass over a batch: only an autoregressive head makes passes, and none over no sequence
 abbrev pub passSeconds : DrafterCost → ℕ → Rates → Float → Float
 passSeconds (Fraction frac) batch rates loaded = f0
@@ -100,31 +94,8 @@ raggedSeconds kind widths rates verify loaded = cond (eqb (largest widths) 0) f0
 
 -- ---- what is refused
 
--- 10^6, 10^9 and 10^18
-abbrev pub million : Float
-million = ofBits binary64 0x412e_8480_0000_0000
-
-abbrev pub billion : Float
-billion = ofBits binary64 0x41cd_cd65_0000_0000
-
-abbrev pub quintillion : Float
-quintillion = ofBits binary64 0x43ab_c16d_674e_c800
-
-abbrev pub mostCount : ℕ
-mostCount = 1000000
-
 abbrev pub mostBatch : ℕ
 mostBatch = 1024
-
-abbrev pub isParams : Float → Bool
-isParams x = inRange f0 quintillion x
-
-abbrev pub isCount : ℕ → Bool
-isCount n = leb n mostCount
-
--- each rate and count of the drafter is in range
-abbrev pub isHead : Float → Float → ℕ → ℕ → ℕ → Bool
-isHead dense expert experts k shared = isCount experts && (isCount k && (isCount shared && (isParams dense && isParams expert)))
 
 abbrev pub isDrafter : DrafterCost → Bool
 isDrafter (Fraction frac) = inRange f0 million frac
@@ -140,21 +111,6 @@ isStreamed rates = inRange f1 quintillion (rates .peak) && inRange f1 quintillio
 
 unfoldable pub ratesRefusal : Rates → ℕ
 ratesRefusal rates = cond (isStreamed rates && inSignedRange (neg billion) billion (rates .«kv_delta»)) 0 15
-
-abbrev pub isVerifyCost : Float → Bool
-isVerifyCost x = inRange f0 billion x
-
-abbrev pub allWidths : List ℕ → Bool
-allWidths [] = true
-allWidths (w ∷ ws) = leb w mostGamma && allWidths ws
-
-abbrev pub allLoaded : List Float → Bool
-allLoaded [] = true
-allLoaded (x ∷ xs) = inRange f0 million x && allLoaded xs
-
--- the loaded experts are read for an autoregressive head alone, as far as the entry of the batch: 16 where that is missing, 15 where one is out of range
-abbrev pub entriesRefusal : ℕ → List Float → ℕ
-entriesRefusal batch loaded = cond (ltb batch (length loaded)) (cond (allLoaded (take (batch + 1) loaded)) 0 15) 16
 
 unfoldable pub loadedRefusal : DrafterCost → ℕ → List Float → ℕ
 loadedRefusal (Fraction frac) batch loaded = 0

@@ -1,3 +1,2 @@
 pub mod Acceptance
 pub mod Drafter
-pub mod Switch

@@ -1,8 +1,9 @@
 // What producing the drafts costs, in seconds a step. Every function takes every drafter, rate, list and number.
 use crate::inner;
+use draft_inputs::MOST_COUNT;
+use draft_inputs::MOST_GAMMA;
 ghost use mathlib.Core.Path.{_≡_};
-ghost use mathlib.Core.Bool.{_&&_};
-ghost use Rattle.speculative.specs.Drafter.{absent, isBlock, isParams, isHead, isDrafter, isStreamed, isVerifyCost, drafterRefusal, ratesRefusal, allWidths, allLoaded, entriesRefusal, loadedRefusal, inputsRefusal, costRefusal, draftSeconds, draftPass, draftRagged};
+ghost use Rattle.speculative.specs.Drafter.{absent, isBlock, isDrafter, isStreamed, drafterRefusal, ratesRefusal, loadedRefusal, inputsRefusal, costRefusal, draftSeconds, draftPass, draftRagged};
 
 // What the drafter streams at, and the cost table's correction for the length of the contexts.
 pub struct Rates {
@@ -35,14 +36,8 @@ pub enum DraftTime {
     Refused(u64),
 }
 
-// The most drafts.
-const MOST_GAMMA: u32 = 64;
-
 // The most sequences.
 const MOST_BATCH: usize = 1024;
-
-// The most experts, and the longest block.
-const MOST_COUNT: u32 = 1000000;
 
 // The drafter where none is set: it costs nothing.
 pub fn no_drafter() -> DrafterCost
@@ -134,7 +129,7 @@ pub fn ragged_seconds(
 ) -> DraftTime
     ensures { λ r. ⌜ r ≡ draftRagged drafter (now (widths .entry)) rates «verify_c» (now (loaded .entry)) ⌝ }
 {
-    let valued = is_ragged(widths, verify_c);
+    let valued = draft_inputs::inner::is_ragged(widths, verify_c);
     let refusal = refusal_of(drafter, true, widths.len(), rates, valued, loaded);
     if 0 < refusal {
         return DraftTime::Refused(refusal);
@@ -154,7 +149,7 @@ fn is_drafter(drafter: DrafterCost) -> bool
             num_experts,
             experts_per_tok,
             shared_experts,
-        } => is_head(
+        } => draft_inputs::inner::is_head(
             dense_params,
             expert_params,
             num_experts,
@@ -165,41 +160,9 @@ fn is_drafter(drafter: DrafterCost) -> bool
             if MOST_COUNT < block {
                 return false;
             }
-            is_params(params)
+            draft_inputs::inner::is_params(params)
         }
     }
-}
-
-// Whether the counts and the parameters of an autoregressive head are in range.
-fn is_head(
-    dense_params: f64,
-    expert_params: f64,
-    num_experts: u32,
-    experts_per_tok: u32,
-    shared_experts: u32,
-) -> bool
-    ensures { λ r. ⌜ r ≡ isHead «dense_params» «expert_params» «num_experts» «experts_per_tok» «shared_experts» ⌝ }
-{
-    if MOST_COUNT < num_experts {
-        return false;
-    }
-    if MOST_COUNT < experts_per_tok {
-        return false;
-    }
-    if MOST_COUNT < shared_experts {
-        return false;
-    }
-    if is_params(dense_params) {
-        is_params(expert_params)
-    } else {
-        false
-    }
-}
-
-fn is_params(x: f64) -> bool
-    ensures { λ r. ⌜ r ≡ isParams x ⌝ }
-{
-    float::in_range(x, 0.0, 1e18)
 }
 
 // Whether the two rates that a drafter streams at are in range.
@@ -213,66 +176,13 @@ fn is_streamed(rates: Rates) -> bool
     }
 }
 
-// Whether no width is above 64 and the verify cost is in range.
-fn is_ragged(widths: &[u32], verify_c: f64) -> bool
-    ensures { λ r. ⌜ r ≡ (allWidths (now (widths .entry)) && isVerifyCost «verify_c») ⌝ }
-{
-    if are_widths(widths) {
-        float::in_range(verify_c, 0.0, 1e9)
-    } else {
-        false
-    }
-}
-
-fn are_widths(widths: &[u32]) -> bool
-    ensures { λ r. ⌜ r ≡ allWidths (now (widths .entry)) ⌝ }
-{
-    let mut k = 0usize;
-    while k < widths.len() {
-        if MOST_GAMMA < widths[k] {
-            return false;
-        }
-        k += 1;
-    }
-    true
-}
-
-// Whether every entry of the loaded experts is in range.
-fn are_loaded(loaded: &[f64]) -> bool
-    ensures { λ r. ⌜ r ≡ allLoaded (now (loaded .entry)) ⌝ }
-{
-    let mut k = 0usize;
-    while k < loaded.len() {
-        if float::in_range(loaded[k], 0.0, 1e6) {
-            k += 1;
-        } else {
-            return false;
-        }
-    }
-    true
-}
-
-// 16 where the entry of the batch is missing, 15 where one up to it is out of range; else 0.
-fn entries_refusal(batch: usize, loaded: &[f64]) -> u64
-    ensures { λ r. ⌜ r ≡ entriesRefusal batch (now (loaded .entry)) ⌝ }
-{
-    if loaded.len() <= batch {
-        return 16;
-    }
-    if are_loaded(&loaded[..batch + 1]) {
-        0
-    } else {
-        15
-    }
-}
-
 // What is refused of the loaded experts: for an autoregressive head alone.
 fn loaded_refusal(drafter: DrafterCost, batch: usize, loaded: &[f64]) -> u64
     ensures { λ r. ⌜ r ≡ loadedRefusal drafter batch (now (loaded .entry)) ⌝ }
 {
     match drafter {
         DrafterCost::Fraction { .. } => 0,
-        DrafterCost::Autoregressive { .. } => entries_refusal(batch, loaded),
+        DrafterCost::Autoregressive { .. } => draft_inputs::inner::entries_refusal(batch, loaded),
         DrafterCost::BlockParallel { .. } => 0,
     }
 }

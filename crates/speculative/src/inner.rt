@@ -1,60 +1,12 @@
 // What a caller that has judged the settings calls.
-use crate::acceptance;
-use crate::acceptance::AcceptanceModel;
-use crate::acceptance::Sample;
 use crate::drafter::DrafterCost;
 use crate::drafter::Rates;
+pub use draft_inputs::inner::largest_of;
+pub use draft_inputs::inner::still_drafting;
 ghost use mathlib.Core.Path.{_≡_};
 ghost use Prim.Native.Nat.{_≤_};
 ghost use lib.ListN.{length};
-ghost use Rattle.speculative.specs.Acceptance.{isDraw, sampleFrom};
-ghost use Rattle.speculative.specs.Drafter.{headPass, blockSeconds, drafterSeconds, loadedAt, largest, stillDrafting, passSeconds, passesFrom, raggedSeconds};
-
-// How many drafts of one sequence the draws accept, from the draw `from` on: they are consumed in order until one is not
-// below its position's value, or until gamma are used. 13 where a needed draw is absent, 14 where a consumed one is out of range.
-pub fn sample_from(
-    model: AcceptanceModel,
-    positions: &[f64],
-    gamma: u32,
-    draws: &[f64],
-    from: usize,
-) -> Sample
-    ensures { λ r. ⌜ r ≡ sampleFrom model (now (positions .entry)) gamma (now (draws .entry)) from ⌝ }
-{
-    let drafts = gamma as usize;
-    let mut at = from;
-    let mut n = 0usize;
-    while n < drafts {
-        if draws.len() <= at {
-            return Sample::Refused(13);
-        }
-        let draw = draws[at];
-        if is_draw(draw) {
-            at += 1;
-        } else {
-            return Sample::Refused(14);
-        }
-        if draw < acceptance::a_d(model, positions, n) {
-            n += 1;
-        } else {
-            return Sample::Accepted {
-                commits: n as u32,
-                used: n + 1,
-            };
-        }
-    }
-    Sample::Accepted {
-        commits: n as u32,
-        used: n,
-    }
-}
-
-// A draw is at least 0.0 and below 1.0; minus zero is none.
-fn is_draw(x: f64) -> bool
-    ensures { λ r. ⌜ r ≡ isDraw x ⌝ }
-{
-    if float::is_clear(x) { x < 1.0 } else { false }
-}
+ghost use Rattle.speculative.specs.Drafter.{headPass, blockSeconds, drafterSeconds, loadedAt, passSeconds, passesFrom, raggedSeconds};
 
 // One pass of an autoregressive head over `b` sequences, of which `loaded` routed experts are read.
 fn head_pass(
@@ -158,37 +110,6 @@ pub fn pass_seconds(drafter: DrafterCost, batch: u32, rates: Rates, loaded: f64)
             }
         }
     }
-}
-
-// The largest width, and 0 of none.
-pub fn largest_of(widths: &[u32]) -> u32
-    ensures { λ r. ⌜ r ≡ largest (now (widths .entry)) ⌝ }
-{
-    let mut m = 0u32;
-    let mut i = 0usize;
-    while i < widths.len() {
-        if m < widths[i] {
-            m = widths[i];
-        }
-        i += 1;
-    }
-    m
-}
-
-// How many widths are k or more.
-pub fn still_drafting(widths: &[u32], k: u32) -> u32
-    requires { ⌜ length (now widths) ≤ 1024 ⌝ }
-    ensures { λ r. ⌜ r ≡ stillDrafting (now (widths .entry)) k ⌝ }
-{
-    let mut n = 0u32;
-    let mut i = 0usize;
-    while i < widths.len() {
-        if k <= widths[i] {
-            n += 1;
-        }
-        i += 1;
-    }
-    n
 }
 
 // The passes of depths 1 to `deepest`, each over the sequences that still draft there, added in order.

@@ -1,5 +1,3 @@
-// Speculative decoding: how the target accepts a draft, what drafting costs, and the switch settings.
-pub mod acceptance;
+// What producing the drafts costs: the three kinds of drafter, their rates, and the seconds of a draft.
 pub mod drafter;
 pub mod inner;
-pub mod switch;

@@ -8,9 +8,9 @@ use borrow.Author.Tests.{leb-false}
 use lib.Dec.{leb}
 use lib.ListN.{length, getD}
 use lib.Ieee.{Float}
-use Rattle.speculative.specs.declared.switch.SwitchConstraints.{SwitchConstraints}
-use Rattle.speculative.specs.declared.switch.MaxStep.{MaxStep}
-use Rattle.switching.specs.Walk.{walkCandidates}
+use Rattle.switch_settings.specs.declared.SwitchConstraints.{SwitchConstraints}
+use Rattle.switch_settings.specs.declared.MaxStep.{MaxStep}
+use Rattle.width_walk.specs.Walk.{walkCandidates}
 use Rattle.switching.specs.Deciding.{isDue, counted, walked, candidatesOf, decided, mostWidth, mostRounds, mostDepths}
 use Rattle.switching.specs.declared.Switching.{Switching}
 use Rattle.switching.proofs.Widths.{arrives, candidate-finite}

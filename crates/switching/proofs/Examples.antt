@@ -6,9 +6,9 @@ use lib.ListN.{replicate}
 use lib.Ieee.{Float, nan, binary64, neg, lt, eq, ofBits, add, mul, round}
 use Rattle.float.specs.Floats.{f0, f1, infinity, isClear, isFinite}
 use Rattle.float.specs.Range.{inRange, inRangeOrInfinite}
-use Rattle.speculative.specs.declared.switch.MaxStep.the-variants.{Unlimited, AtMost}
-use Rattle.speculative.specs.declared.switch.SwitchConstraints.{SwitchConstraints}
-use Rattle.switching.specs.Walk.{firstAtLeast, walkCandidates}
+use Rattle.switch_settings.specs.declared.MaxStep.the-variants.{Unlimited, AtMost}
+use Rattle.switch_settings.specs.declared.SwitchConstraints.{SwitchConstraints}
+use Rattle.width_walk.specs.Walk.{firstAtLeast, walkCandidates}
 use Rattle.switching.specs.Deciding.{finiteFrom, candidatesOf, recordRefusal, decideRefusal, decided, atFirst, firstDecision, decision, collection}
 use Rattle.switching.specs.declared.Switching.{Switching}
 use Rattle.switching.specs.declared.Answer.the-variants.{Width, Refused}

@@ -1,5 +1,3 @@
-mod Local
-pub mod Walking
 pub mod Slots
 pub mod Steps
 pub mod Widths

@@ -19,9 +19,9 @@ use Rattle.float.specs.Floats.{plus, times, f0, isFinite, isClear}
 use Rattle.float.specs.Range.{inRange}
 use Rattle.float.proofs.Classes.{clash}
 use Rattle.float.proofs.Ranges.{range-high}
-use Rattle.speculative.specs.Switch.{mostCost, switchRefusal}
-use Rattle.speculative.specs.declared.switch.SwitchConstraints.{SwitchConstraints}
-use Rattle.switching.specs.Walk.{walkCandidates}
+use Rattle.switch_settings.specs.Switch.{mostCost, switchRefusal}
+use Rattle.switch_settings.specs.declared.SwitchConstraints.{SwitchConstraints}
+use Rattle.width_walk.specs.Walk.{walkCandidates}
 use Rattle.switching.specs.Deciding.{milli, isDue, counted, atWidth, walked, collected, candidatesOf, decided}
 use Rattle.switching.specs.declared.Switching.{Switching}
 
@@ -95,14 +95,14 @@ below-held (fin false m e) (fin false k d) n u v h =
     le-of-mul-le-mul-right z (down-pos d)
 
 -- a / b is at most c / d, which rounds to n
-rounded : (a b c d n : ℕ) → 0 < b → 0 < d → a * d ≤ c * b → HasValue (round binary64 false c d) false n 1 → UpTo n (round binary64 false a b)
+pub rounded : (a b c d n : ℕ) → 0 < b → 0 < d → a * d ≤ c * b → HasValue (round binary64 false c d) false n 1 → UpTo n (round binary64 false a b)
 rounded a b c d n B D h v = below-held (round binary64 false a b) (round binary64 false c d) n (round-upper binary64 a b) v (round-mono binary64 a b c d B D h)
 
 -- a whole number below 2 ^ 53 is held exactly
 room : (f : Format) → prec f + low f ≤ low f + suc (emax f)
 room f = let h = reach f in omega arith
 
-whole-held : (f : Format) (n : ℕ) → n < 2 ^ prec f → HasValue (round f false n 1) false n 1
+pub whole-held : (f : Format) (n : ℕ) → n < 2 ^ prec f → HasValue (round f false n 1) false n 1
 whole-held f n h =
     round-exact f false n 1 n (low f) (zero-lt-suc 0) h
     (lt-of-lt-of-le (shl-lt (prec f) (low f) h) (pow-mono (room f)))

@@ -13,11 +13,11 @@ use lib.Seq.{drop-cons}
 use lib.Ieee.{Float, nan}
 use Rattle.float.specs.Floats.{plus, times, f0, isFinite, isClear}
 use Rattle.float.specs.Range.{inRangeOrInfinite}
-use Rattle.speculative.specs.Acceptance.{firstOf}
-use Rattle.speculative.specs.Drafter.{billion}
-use Rattle.speculative.specs.Switch.{switchRefusal}
-use Rattle.speculative.specs.declared.switch.SwitchConstraints.{SwitchConstraints}
-use Rattle.speculative.proofs.Refusals.{goes-first, goes-next}
+use Rattle.refusals.specs.Refusals.{firstOf}
+use Rattle.draft_inputs.specs.Inputs.{billion}
+use Rattle.switch_settings.specs.Switch.{switchRefusal}
+use Rattle.switch_settings.specs.declared.SwitchConstraints.{SwitchConstraints}
+use Rattle.refusals.proofs.First.{goes-first, goes-next}
 use Rattle.switching.specs.Deciding.{milli, isDue, counted, atWidth, walked, collected, candidatesOf, next, decided, mostWidth, mostRounds, mostDepths, isRecord, recordRefusal, allPrices, decideRefusal, atFirst, firstDecision, decidedUnless, decision, collectedUnless, collection}
 use Rattle.switching.specs.declared.Switching.{Switching}
 use Rattle.switching.specs.declared.Answer.the-variants.{Width, Refused}

@@ -11,11 +11,11 @@ use lib.ListN.{length, getD}
 use lib.Ieee.{Float, nan}
 use Rattle.float.specs.Floats.{isFinite}
 use Rattle.float.proofs.Classes.{clash}
-use Rattle.speculative.specs.declared.switch.MaxStep.{MaxStep}
-use Rattle.speculative.specs.declared.switch.MaxStep.the-variants.{Unlimited, AtMost}
-use Rattle.switching.specs.Walk.{firstAtLeast, snapIndex, targetIndex, walkIndex, walkCandidates}
+use Rattle.switch_settings.specs.declared.MaxStep.{MaxStep}
+use Rattle.switch_settings.specs.declared.MaxStep.the-variants.{Unlimited, AtMost}
+use Rattle.width_walk.specs.Walk.{firstAtLeast, snapIndex, targetIndex, walkIndex, walkCandidates}
 use Rattle.switching.specs.Deciding.{finiteFrom, candidatesOf}
-use Rattle.switching.proofs.Walking.{walk-within}
+use Rattle.width_walk.proofs.Walking.{walk-within}
 
 -- ---- the walk arrives at a candidate, and never past the target's index
 pub record Arrives (l : List ℕ) (width target w : ℕ) : Type 0 where

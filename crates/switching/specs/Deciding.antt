@@ -7,11 +7,11 @@ use lib.ListN.{length, set, replicate}
 use lib.Ieee.{Float, binary64, ofBits}
 use Rattle.float.specs.Floats.{plus, times, f0, isFinite, isClear}
 use Rattle.float.specs.Range.{inRangeOrInfinite}
-use Rattle.speculative.specs.Acceptance.{firstOf}
-use Rattle.speculative.specs.Drafter.{billion}
-use Rattle.speculative.specs.Switch.{switchRefusal}
-use Rattle.speculative.specs.declared.switch.SwitchConstraints.{SwitchConstraints}
-use Rattle.switching.specs.Walk.{walkCandidates}
+use Rattle.refusals.specs.Refusals.{firstOf}
+use Rattle.draft_inputs.specs.Inputs.{billion}
+use Rattle.switch_settings.specs.Switch.{switchRefusal}
+use Rattle.switch_settings.specs.declared.SwitchConstraints.{SwitchConstraints}
+use Rattle.width_walk.specs.Walk.{walkCandidates}
 use Rattle.switching.specs.declared.Switching.{Switching}
 use Rattle.switching.specs.declared.Answer.{Answer}
 use Rattle.switching.specs.declared.Answer.the-variants.{Width, Refused}

@@ -1,10 +1,10 @@
 // What a caller that has judged the record, the curve and the settings calls.
 use crate::Switching;
-use speculative::switch::SwitchConstraints;
+use switch_settings::SwitchConstraints;
 ghost use mathlib.Core.Path.{_≡_};
 ghost use Prim.Native.Nat.{_<_, _≤_};
 ghost use lib.ListN.{length};
-ghost use Rattle.switching.specs.Deciding.{isDue, decided, collected, withDepth, candidateSlots};
+ghost use Rattle.switching.specs.Deciding.{isDue, counted, decided, collected, withDepth, candidateSlots};
 
 // The depths of finite price, ascending: the first `len` of the list.
 pub struct Candidates {
@@ -43,6 +43,17 @@ pub fn candidates_of(curve: &[f64]) -> Candidates
         g += 1;
     }
     found
+}
+
+impl Switching {
+    // One round more.
+    pub fn count(mut self) -> Switching
+        requires { ⌜ self .rounds < 4294967295 ⌝ }
+        ensures { λ r. ⌜ r ≡ counted self ⌝ }
+    {
+        self.rounds = self.rounds + 1;
+        self
+    }
 }
 
 // One decision after the first: a round is counted, and the width walks where that is due.

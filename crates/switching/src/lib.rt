@@ -1,13 +1,10 @@
 // One worker's switching: the width in force follows the gate's target as the settings allow. The record's small steps take it
-// by value and hand it back; `decide_lent` and `collect_lent` are for a record that is updated where it stands.
-use speculative::switch;
-use speculative::switch::SwitchConstraints;
+// by value and hand it back; `switching_lent` is for a record that is updated where it stands.
+use switch_settings::SwitchConstraints;
 ghost use mathlib.Core.Path.{_≡_};
-ghost use Prim.Native.Nat.{_<_};
-ghost use Rattle.switching.specs.Deciding.{counted, walked, collected, recordRefusal, allPrices, decideRefusal, firstDecision, decision, collection};
+ghost use Rattle.switching.specs.Deciding.{walked, collected, recordRefusal, allPrices, decideRefusal, firstDecision, decision, collection};
 
 pub mod inner;
-pub mod walk;
 
 // The width in force, the rounds since it last walked, and the stall in seconds that is not yet collected.
 pub struct Switching {
@@ -50,15 +47,6 @@ const MOST_DEPTHS: usize = 65;
 const MOST_ROUNDS: u32 = 4294967294;
 
 impl Switching {
-    // One round more.
-    pub fn count(mut self) -> Switching
-        requires { ⌜ self .rounds < 4294967295 ⌝ }
-        ensures { λ r. ⌜ r ≡ counted self ⌝ }
-    {
-        self.rounds = self.rounds + 1;
-        self
-    }
-
     // The counter is reset and the width walks; a changed width adds its cost to the stall.
     pub fn walk(
         mut self,
@@ -69,7 +57,7 @@ impl Switching {
         ensures { λ r. ⌜ r ≡ walked self (now (candidates .entry)) target constraints ⌝ }
     {
         let step = constraints.max_step;
-        let next = walk::walk_candidates(candidates, self.width, target, step);
+        let next = width_walk::walk_candidates(candidates, self.width, target, step);
         self.rounds = 0;
         if next != self.width {
             self.width = next;
@@ -169,54 +157,6 @@ pub fn collect(held: Switching) -> Collected
     }
 }
 
-// A decision on the record where it stands; a refusal leaves it as it was.
-pub fn decide_lent(
-    r: &mut Switching,
-    curve: &[f64],
-    target: u32,
-    constraints: SwitchConstraints,
-) -> Answer
-    ensures { λ a. ⌜ record { answer = a; kept = now (r .exit) } ≡ decision (now (r .entry)) (now (curve .entry)) target constraints ⌝ }
-{
-    let held = *r;
-    let d = decide(held, curve, target, constraints);
-    *r = d.kept;
-    d.answer
-}
-
-// Collects from the record where it stands; a refusal leaves it as it was.
-pub fn collect_lent(r: &mut Switching) -> Stall
-    ensures { λ a. ⌜ record { answer = a; kept = now (r .exit) } ≡ collection (now (r .entry)) ⌝ }
-{
-    let held = *r;
-    let d = collect(held);
-    *r = d.kept;
-    d.answer
-}
-
-// Lends the record to `decide_lent` and hands it back: for a caller with plain parameters.
-pub fn lend_and_decide(
-    given: Switching,
-    curve: &[f64],
-    target: u32,
-    constraints: SwitchConstraints,
-) -> Decided
-    ensures { λ d. ⌜ d ≡ decision given (now (curve .entry)) target constraints ⌝ }
-{
-    let mut kept = given;
-    let answer = decide_lent(&mut kept, curve, target, constraints);
-    Decided { answer, kept }
-}
-
-// Lends the record to `collect_lent` and hands it back: for a caller with plain parameters.
-pub fn lend_and_collect(given: Switching) -> Collected
-    ensures { λ d. ⌜ d ≡ collection given ⌝ }
-{
-    let mut kept = given;
-    let answer = collect_lent(&mut kept);
-    Collected { answer, kept }
-}
-
 // Whether every price is in range or +infinity.
 fn are_prices(curve: &[f64]) -> bool
     ensures { λ r. ⌜ r ≡ allPrices (now (curve .entry)) ⌝ }
@@ -236,7 +176,7 @@ fn are_prices(curve: &[f64]) -> bool
 fn refusal_of(held: Switching, curve: &[f64], constraints: SwitchConstraints) -> u64
     ensures { λ r. ⌜ r ≡ decideRefusal held (now (curve .entry)) constraints ⌝ }
 {
-    let setting = switch::switch_refusal(constraints);
+    let setting = switch_settings::switch_refusal(constraints);
     if 0 < setting {
         return setting;
     }

@@ -5,43 +5,14 @@ use mathlib.Core.Bool.{Bool, true, false, _&&_, cond}
 use mathlib.Core.List.{List, [], _∷_}
 use Prim.Native.Nat.{ℕ, zero, suc, _+_, _-_, _≤_, _<_, zero-le, suc-le-suc}
 use native.Mathlib.Nat.{not-suc-le-zero, le-of-suc-le-suc}
-use native.Mathlib.Numerals.{add-one}
 use native.Mathlib.Omega.{arith}
 use borrow.Author.Tests.{eq-eqb, ne-eqb, eqb-true}
 use lib.Dec.{eqb}
 use lib.ListN.{length, getD, take, drop, length-drop, drop-of-length-le}
-use lib.Seq.{drop-cons}
-use Rattle.text.specs.Lines.{find, startsWith, onto, lines, firstLine, afterLine}
+use Rattle.blocks.specs.Blocks.{find, tally, isByte}
+use Rattle.text.specs.Lines.{startsWith, onto, lines, firstLine, afterLine}
 use Rattle.text.specs.Fields.{fields, sameText}
-
--- ---- a list from a place on
-
-pub next : (t : List ℕ) (i : ℕ) → i < length t → drop i t ≡ getD t i 0 ∷ drop (i + 1) t
-next t i h = drop-cons t i 0 h ∙ ap (λ (n : ℕ). getD t i 0 ∷ drop n t) (sym (add-one i))
-
-pub test : (b : Bool) → (b ≡ true) ⊎ (b ≡ false)
-test true = inl refl
-test false = inr refl
-
--- ---- where a byte first stands
-
-pub find-le : (x : ℕ) (s : List ℕ) → find x s ≤ length s
-find-le x [] = zero-le
-find-le x (b ∷ s) = go (eqb b x) (find-le x s)
-  where
-    go : (z : Bool) → find x s ≤ length s → cond z 0 (suc (find x s)) ≤ suc (length s)
-    go true k = zero-le
-    go false k = suc-le-suc k
-
--- the same of what a search found
-pub found-le : (x : ℕ) (s : List ℕ) (n : ℕ) → n ≡ find x s → n ≤ length s
-found-le x s n e = omega (arith, find-le x s)
-
-pub find-here : (x : ℕ) (t : List ℕ) (i : ℕ) → i < length t → getD t i 0 ≡ x → find x (drop i t) ≡ 0
-find-here x t i h e = ap (find x) (next t i h) ∙ ap (λ (z : Bool). cond z 0 (suc (find x (drop (i + 1) t)))) (eq-eqb (getD t i 0) x e)
-
-pub find-later : (x : ℕ) (t : List ℕ) (i : ℕ) → i < length t → (getD t i 0 ≡ x → ⊥) → find x (drop i t) ≡ suc (find x (drop (i + 1) t))
-find-later x t i h n = ap (find x) (next t i h) ∙ ap (λ (z : Bool). cond z 0 (suc (find x (drop (i + 1) t)))) (ne-eqb (getD t i 0) x n)
+use Rattle.blocks.proofs.Finding.{next, test}
 
 -- ---- the fields of a line, from its front
 
@@ -85,6 +56,19 @@ pub count-other : (t : List ℕ) (i : ℕ) → i < length t → (getD t i 0 ≡ 
 count-other t i h n =
     let s = drop (i + 1) t in
     ap (λ (s : List ℕ). length (fields s)) (next t i h) ∙ rw (ne-eqb (getD t i 0) 44 n) (onto-length (getD t i 0) (fields s) (fields-some s))
+
+-- ---- a line has one field more than commas
+
+pub fields-counted : (s : List ℕ) → length (fields s) ≡ tally (isByte 44) s + 1
+fields-counted [] = refl
+fields-counted (b ∷ s) = go (eqb b 44) (fields-counted s)
+  where
+    some : length (fields s) ≡ tally (isByte 44) s + 1 → 0 < length (fields s)
+    some e = omega arith
+
+    go : (z : Bool) → length (fields s) ≡ tally (isByte 44) s + 1 → length (cond z ([] ∷ fields s) (onto b (fields s))) ≡ cond z (suc (tally (isByte 44) s)) (tally (isByte 44) s) + 1
+    go true e = omega arith
+    go false e = onto-length b (fields s) (some e) ∙ e
 
 -- ---- two texts
 

@@ -1,13 +1,8 @@
 -- The lines of a text. 10 is LF, 13 is CR.
-use Prim.Native.Nat.{ℕ, suc}
+use Prim.Native.Nat.{ℕ}
 use mathlib.Core.Bool.{Bool, false, _&&_, cond}
 use mathlib.Core.List.{List, [], _∷_}
 use lib.Dec.{eqb}
-
--- where the byte first stands: as far as the end where it does not
-abbrev pub find : ℕ → List ℕ → ℕ
-find byte [] = 0
-find byte (b ∷ s) = cond (eqb b byte) 0 (suc (find byte s))
 
 -- whether the byte is the first one
 abbrev pub startsWith : ℕ → List ℕ → Bool

@@ -1,5 +1,6 @@
 // What other crates use and no entry point is.
 use crate::Line;
+use blocks::near;
 ghost use mathlib.Core.Path.{_≡_};
 ghost use Prim.Native.Nat.{_-_};
 ghost use lib.ListN.{length};
@@ -10,5 +11,5 @@ pub fn short_line(s: &[u8]) -> Line
     ensures stop { λ r. ⌜ r .stop ≡ length (firstLine (now (s .entry))) ⌝ }
     ensures next { λ r. ⌜ r .next ≡ length (now (s .entry)) - length (afterLine (now (s .entry))) ⌝ }
 {
-    crate::line_to(s, crate::find(s, b'\n'))
+    crate::line_to(s, near::find(s, b'\n'))
 }

@@ -1,34 +1,19 @@
 // Lines and fields of a lent text. Each function looks at the front of what it is lent: a caller hands it the rest of its text.
-pub mod blocks;
 pub mod inner;
-pub mod reader;
 
+use blocks::near;
 ghost use mathlib.Core.Path.{_≡_};
 ghost use Prim.Native.Nat.{_-_};
 ghost use mathlib.Core.List.{[]};
 ghost use lib.ListN.{length, getD};
-ghost use Rattle.text.specs.Lines.{find, startsWith, firstLine, afterLine};
+ghost use Rattle.blocks.specs.Blocks.{find};
+ghost use Rattle.text.specs.Lines.{startsWith, firstLine, afterLine};
 ghost use Rattle.text.specs.Fields.{fields, sameText};
-ghost use Rattle.text.specs.Trim.{isBlank, frontTrimmed, endTrimmed, trimmed};
 
 // Where the first line of a text stops, and where the next one starts.
 pub struct Line {
     pub stop: usize,
     pub next: usize,
-}
-
-// Where the byte first stands: the text's length where it stands nowhere.
-pub fn find(s: &[u8], byte: u8) -> usize
-    ensures { λ r. ⌜ r ≡ find byte (now (s .entry)) ⌝ }
-{
-    let mut at = 0usize;
-    while at < s.len() {
-        if s[at] == byte {
-            return at;
-        }
-        at += 1;
-    }
-    at
 }
 
 // The first line is `&s[..stop]`, and the lines after it are those of `&s[next..]`. A CR directly before the LF is no part of the line.
@@ -80,7 +65,7 @@ pub fn field(s: &[u8], place: usize) -> &[u8]
     let mut rest = s;
     let mut left = place;
     loop {
-        let comma = find(rest, b',');
+        let comma = near::find(rest, b',');
         if left == 0 {
             return &rest[..comma];
         }
@@ -115,53 +100,4 @@ pub fn starts_with(s: &[u8], byte: u8) -> bool
     ensures { λ r. ⌜ r ≡ startsWith byte (now (s .entry)) ⌝ }
 {
     if 0 < s.len() { s[0] == byte } else { false }
-}
-
-// A text without the blanks at its front and at its end.
-pub fn trim(s: &[u8]) -> &[u8]
-    ensures { λ r. ⌜ now r ≡ trimmed (now (s .entry)) ⌝ }
-{
-    trim_end(trim_front(s))
-}
-
-// A text from its first byte on that is no blank.
-fn trim_front(s: &[u8]) -> &[u8]
-    ensures { λ r. ⌜ now r ≡ frontTrimmed (now (s .entry)) ⌝ }
-{
-    let mut at = 0usize;
-    while at < s.len() {
-        if !is_blank(s[at]) {
-            return &s[at..];
-        }
-        at += 1;
-    }
-    &s[at..]
-}
-
-// A text up to its last byte that is no blank.
-fn trim_end(s: &[u8]) -> &[u8]
-    ensures { λ r. ⌜ now r ≡ endTrimmed (now (s .entry)) ⌝ }
-{
-    let mut stop = s.len();
-    while 0 < stop {
-        let last = stop - 1;
-        if !is_blank(s[last]) {
-            return &s[..stop];
-        }
-        stop = last;
-    }
-    &s[..stop]
-}
-
-// A blank is a tab, LF, VT, FF, CR or a space.
-fn is_blank(byte: u8) -> bool
-    ensures { λ r. ⌜ r ≡ isBlank byte ⌝ }
-{
-    if byte < b'\t' {
-        return false;
-    }
-    if byte <= b'\r' {
-        return true;
-    }
-    byte == b' '
 }

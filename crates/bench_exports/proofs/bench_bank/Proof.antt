@@ -1,6 +1,6 @@
 -- `bench_bank` meets its contract: each arm has the case that the reader answered, and the buffers are as the reader left them. Assumes nothing.
 use mathlib.Core.Path.{sym, ap, _∙_}
-use Rattle.bank.specs.Fill.{Outcome}
+use Rattle.bank.specs.Read.{Outcome}
 use Rattle.bench_exports.specs.Figures.{roundsOf}
 use borrow.Author.Needs.{needs}
 use Rattle.bench_exports.proofs.bench_bank.Statement.{statement}

@@ -1,5 +1,5 @@
 -- `batch_range` meets its contract: refused, or looked up. Assumes nothing.
-use Rattle.cost_lookup.specs.declared.answer.BatchRange.the-variants.{Refused}
+use Rattle.batch_ranges.specs.declared.BatchRange.the-variants.{Refused}
 use Rattle.cost_lookup.specs.Entry.{batchRangeAt}
 use Rattle.cost_lookup.proofs.Judged.{lent, is-ordered}
 use Rattle.cost_lookup.proofs.Entries.{refused, answered}

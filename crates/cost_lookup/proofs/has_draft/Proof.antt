@@ -1,5 +1,5 @@
 -- `has_draft` meets its contract: refused, or looked up. Assumes nothing.
-use Rattle.cost_lookup.specs.declared.answer.Measured.the-variants.{Refused}
+use Rattle.batch_ranges.specs.declared.Measured.the-variants.{Refused}
 use Rattle.cost_lookup.specs.Entry.{hasDraftAt}
 use Rattle.cost_lookup.proofs.Judged.{lent, is-ordered}
 use Rattle.cost_lookup.proofs.Entries.{refused, answered}

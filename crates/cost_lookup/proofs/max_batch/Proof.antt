@@ -1,5 +1,5 @@
 -- `max_batch` meets its contract: refused, or looked up. Assumes nothing.
-use Rattle.cost_lookup.specs.declared.answer.MaxBatch.the-variants.{Refused}
+use Rattle.batch_ranges.specs.declared.MaxBatch.the-variants.{Refused}
 use Rattle.cost_lookup.specs.Entry.{maxBatchAt}
 use Rattle.cost_lookup.proofs.Judged.{lent, is-ordered}
 use Rattle.cost_lookup.proofs.Entries.{refused, answered}

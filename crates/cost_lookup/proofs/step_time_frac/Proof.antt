@@ -1,5 +1,5 @@
 -- `step_time_frac` meets its contract: refused, or looked up. Assumes nothing.
-use Rattle.cost_lookup.specs.declared.answer.Time.the-variants.{Refused}
+use Rattle.step_times.specs.declared.Time.the-variants.{Refused}
 use Rattle.cost_lookup.specs.Entry.{stepTimeFracAt}
 use Rattle.cost_lookup.proofs.Judged.{lent, is-ordered}
 use Rattle.cost_lookup.proofs.Entries.{refused, answered}

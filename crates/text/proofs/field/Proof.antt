@@ -7,8 +7,8 @@ use native.Mathlib.Omega.{arith}
 use lib.ListN.{length, getD, take, drop, drop-of-length-le}
 use lib.Seq.{length-take-le}
 use Rattle.text.specs.Fields.{fields}
-use Rattle.text.proofs.Laws.{found-le}
-use Rattle.text.proofs.Walk.{part, part-length, getD-more, field-last, field-next, field-first}
+use Rattle.blocks.proofs.Finding.{found-le, part, part-length}
+use Rattle.text.proofs.Walk.{getD-more, field-last, field-next, field-first}
 use borrow.Author.Needs.{needs}
 use Rattle.text.proofs.field.Statement.{statement}
 use Rattle.text.proofs.field.Tie as tie

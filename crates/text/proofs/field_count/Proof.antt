@@ -1,7 +1,8 @@
 -- `text::field_count` meets its contract: a line has one field more than commas. Assumes nothing.
 use native.Mathlib.Omega.{arith}
-use Rattle.text.specs.Blocks.{isByte}
-use Rattle.text.proofs.Tallies.{tally-le, fields-counted}
+use Rattle.blocks.specs.Blocks.{isByte}
+use Rattle.blocks.proofs.Tallies.{tally-le}
+use Rattle.text.proofs.Laws.{fields-counted}
 use borrow.Author.Needs.{needs}
 use Rattle.text.proofs.field_count.Statement.{statement}
 use Rattle.text.proofs.field_count.Tie as tie

@@ -6,8 +6,9 @@ use Prim.Native.Nat.{_≤_}
 use native.Mathlib.Omega.{arith}
 use borrow.Author.Tests.{eq-eqb, ne-eqb}
 use lib.ListN.{length}
-use Rattle.text.specs.Lines.{find}
-use Rattle.text.proofs.Laws.{line-empty, line-last, line-fed, find-le, after-length}
+use Rattle.blocks.specs.Blocks.{find}
+use Rattle.text.proofs.Laws.{line-empty, line-last, line-fed, after-length}
+use Rattle.blocks.proofs.Finding.{find-le}
 use borrow.Author.Needs.{needs}
 use Rattle.text.proofs.line_to.Statement.{statement}
 use Rattle.text.proofs.line_to.Tie as tie

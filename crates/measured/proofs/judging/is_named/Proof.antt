@@ -3,7 +3,7 @@ use mathlib.Core.Path.{ap, _∙_}
 use mathlib.Core.List.{List}
 use Prim.Native.Nat.{ℕ}
 use Rattle.text.specs.Fields.{sameText}
-use Rattle.text.specs.Trim.{trimmed}
+use Rattle.trimming.specs.Trim.{trimmed}
 use borrow.Author.Needs.{needs}
 use Rattle.measured.proofs.judging.is_named.Statement.{statement}
 use Rattle.measured.proofs.judging.is_named.Tie as tie

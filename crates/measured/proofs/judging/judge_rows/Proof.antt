@@ -5,7 +5,8 @@ use native.Mathlib.Omega.{arith}
 use lib.ListN.{length, drop}
 use lib.Seq.{length-take-le}
 use Rattle.text.specs.Lines.{lines}
-use Rattle.text.proofs.Walk.{part-length, line-stop, line-next, line-first, lines-none}
+use Rattle.blocks.proofs.Finding.{part-length}
+use Rattle.text.proofs.Walk.{line-stop, line-next, line-first, lines-none}
 use Rattle.measured.specs.Judge.{judgeRows}
 use Rattle.cost_rows.proofs.Columns.{Done, none-done, put-row-done, all-done, head-rest}
 use native.Mathlib.Numerals.{add-one}

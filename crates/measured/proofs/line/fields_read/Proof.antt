@@ -2,8 +2,9 @@
 use mathlib.Core.Path.{sym, ap, _∙_}
 use mathlib.Core.List.{List}
 use Prim.Native.Nat.{ℕ}
-use Rattle.text.specs.Trim.{trimmed}
-use Rattle.numeral.specs.Spelling.{wholeOf, decimalOf}
+use Rattle.trimming.specs.Trim.{trimmed}
+use Rattle.numeral.specs.Spelling.{wholeOf}
+use Rattle.decimals.specs.Decimals.{decimalOf}
 use Rattle.measured.specs.Line.{numbersRead}
 use Rattle.measured.proofs.Laws.{numbers-batch, numbers-tokens, numbers-time}
 use borrow.Author.Needs.{needs}

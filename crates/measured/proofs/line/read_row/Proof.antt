@@ -5,7 +5,7 @@ use Prim.Native.Nat.{ℕ, _+_, _-_, _≤_, _<_}
 use native.Mathlib.Omega.{arith}
 use lib.ListN.{length, take, drop}
 use lib.Seq.{length-take-le}
-use Rattle.text.specs.Lines.{find}
+use Rattle.blocks.specs.Blocks.{find}
 use Rattle.text.specs.Fields.{fields}
 use Rattle.text.proofs.Laws.{fields-last}
 use Rattle.text.proofs.Walk.{field-last, field-next}

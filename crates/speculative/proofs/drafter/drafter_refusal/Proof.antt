@@ -2,7 +2,7 @@
 use mathlib.Core.Path.{sym, _∙_}
 use mathlib.Core.Bool.{true, false}
 use Rattle.speculative.specs.Drafter.{drafterRefusal}
-use Rattle.speculative.proofs.Refusals.{chosen}
+use Rattle.refusals.proofs.First.{chosen}
 use borrow.Author.Needs.{needs}
 use Rattle.speculative.proofs.drafter.drafter_refusal.Statement.{statement}
 use Rattle.speculative.proofs.drafter.drafter_refusal.Tie as tie

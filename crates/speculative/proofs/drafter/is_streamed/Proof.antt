@@ -1,7 +1,7 @@
 -- `drafter::is_streamed` meets its contract: both tests are the definition's. Assumes nothing.
 use mathlib.Core.Path.{sym, _∙_}
 use mathlib.Core.Bool.{true, false}
-use Rattle.speculative.proofs.Refusals.{both}
+use Rattle.draft_inputs.proofs.Inputs.{both}
 use borrow.Author.Needs.{needs}
 use Rattle.speculative.proofs.drafter.is_streamed.Statement.{statement}
 use Rattle.speculative.proofs.drafter.is_streamed.Tie as tie

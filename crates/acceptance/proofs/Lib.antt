@@ -1,0 +1,4 @@
+pub mod Judged
+pub mod Expectation
+pub mod Draws
+mod Examples

@@ -1,0 +1,2 @@
+// The buffers that reading a trace bank fills.
+pub mod inner;

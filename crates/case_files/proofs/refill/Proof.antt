@@ -1,0 +1,42 @@
+-- `cases::refill` keeps to the room. Assumes nothing.
+use Rattle.case_files.proofs.Places.{counts}
+use borrow.Author.Needs.{needs}
+use Rattle.case_files.proofs.refill.Statement.{statement}
+use Rattle.case_files.proofs.refill.Tie as tie
+
+to-front-requires : tie.Need-to-front-requires
+to-front-requires c κs = search needs
+
+sub-read-full : tie.Need-sub-read-full
+sub-read-full c = search needs
+
+part-read-full-start : tie.Need-part-read-full-start
+part-read-full-start c = search needs
+
+part-read-full-end : tie.Need-part-read-full-end
+part-read-full-end c = search needs
+
+read-full-requires : tie.Need-read-full-requires
+read-full-requires c κs = search needs
+
+add-result : tie.Need-add-result
+add-result c = search needs
+
+same-length : tie.Need-same-length
+same-length c = search needs
+
+returns : tie.Need-returns
+returns c = counts _ _ (search needs)
+
+pub refill-spec : {M : Type 1} → statement M
+refill-spec =
+    tie.close
+    (tie.spec
+    to-front-requires
+    sub-read-full
+    part-read-full-start
+    part-read-full-end
+    read-full-requires
+    add-result
+    same-length
+    returns)

@@ -1,0 +1,2 @@
+// The rows of a cost table, put in order.
+pub mod inner;

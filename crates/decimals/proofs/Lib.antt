@@ -1,0 +1,4 @@
+pub mod Decimals
+pub mod Outcomes
+pub mod Rounding
+pub mod Table

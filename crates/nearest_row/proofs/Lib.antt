@@ -1,0 +1,6 @@
+pub mod Rows
+pub mod Near
+pub mod Ascending
+pub mod Placed
+pub mod Chosen
+pub mod Beside

@@ -1,0 +1,2 @@
+pub mod Settings
+mod Examples
