@@ -1,0 +1,4 @@
+pub mod Tested
+pub mod Fill
+pub mod Summed
+pub mod Four

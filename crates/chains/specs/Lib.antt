@@ -1,0 +1,5 @@
+pub mod Scan
+pub mod Tests
+pub mod Survival
+pub mod Expected
+pub mod Fours

@@ -1,0 +1,3 @@
+pub mod Clear
+pub mod Wins
+pub mod Domain

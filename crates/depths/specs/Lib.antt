@@ -1,0 +1,2 @@
+pub mod Goodput
+pub mod Pricing

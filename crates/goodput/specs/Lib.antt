@@ -1,0 +1,5 @@
+pub mod Survival
+pub mod Curve
+pub mod Expected
+pub mod Pricing
+pub mod Depth
