@@ -1,0 +1,73 @@
+-- `inner::gated_block_verify` meets its contract, by those of the functions that it calls. Assumes nothing.
+use Prim.Native.Nat.{ℕ}
+use mathlib.Core.Path.{_≡_, ap, _∙_}
+use native.Mathlib.Omega.{arith}
+use lib.ListN.{length, replicate}
+use denote.Ref.{now}
+use Rattle.verdict.specs.Price.{verifyCost}
+use Rattle.block.proofs.Whole.{block-none, block-some}
+use borrow.Author.Needs.{needs}
+use Rattle.block.proofs.inner.gated_block_verify.Statement.{statement}
+use Rattle.block.proofs.inner.gated_block_verify.Tie as tie
+
+clear-requires : tie.Need-clear-requires
+clear-requires c κs = search needs
+
+same-length : tie.Need-same-length
+same-length c = search needs
+
+returns : tie.Need-returns
+returns c =
+    let a = c .before .before .before .before .before .before .before .before .before .before .args in
+    block-none (verifyCost (now (a .curve)) (length (now (a .lengths)))) (now (a .chains)) (now (a .lengths)) (now (a .curve)) (a .depth) (a .kind) (a .rates) (now (a .loaded))
+    _ (c .if1 .taken) (c .before .before .before .clear .ensures ∙ ap (λ (m : ℕ). replicate m 0) (c .before .before .before .before .before .before .before .before .before .before .pre .1 .1))
+
+cast-n : tie.Need-cast-n
+cast-n c = search needs
+
+loaded-at-requires : tie.Need-loaded-at-requires
+loaded-at-requires c κs = search needs
+
+mul-seconds : tie.Need-mul-seconds
+mul-seconds c = search needs
+
+shared-slice-read-seconds : tie.Need-shared-slice-read-seconds
+shared-slice-read-seconds c = search needs
+
+seconds-requires : tie.Need-seconds-requires
+seconds-requires c κs = search needs
+
+verify-block-requires : tie.Need-verify-block-requires
+verify-block-requires c κs =
+    let pre = c .before .before .before .before .before .before .before .before .before .before .before .before .before .before .pre in (
+      pre .0,
+      (
+        (omega (arith, c .before .before .before .before .if1 .left, pre .1 .0), pre .1 .0 .1),
+        c .before .before .before .before .before .before .before .clear .ensures ∙ ap (λ (m : ℕ). replicate m 0) (pre .1 .1),
+      ),
+    )
+
+same-length-2 : tie.Need-same-length-2
+same-length-2 c = search needs
+
+returns-2 : tie.Need-returns-2
+returns-2 c =
+    let a = c .before .before .before .before .before .before .before .before .before .before .before .before .before .before .before .before .before .args in
+    block-some (verifyCost (now (a .curve)) (length (now (a .lengths)))) (now (a .chains)) (now (a .lengths)) (now (a .curve)) (a .depth) (a .kind) (a .rates) (now (a .loaded))
+    _ _ _ (c .before .before .before .before .before .before .before .if1 .left) (c .before .before .before .before .before .before .loaded-at .ensures) (c .before .before .before .before .seconds .ensures) (c .before .before .verify-block .ensures)
+
+pub gated-block-verify-spec : {M : Type 1} → statement M
+gated-block-verify-spec =
+    tie.close
+    (tie.spec
+    clear-requires
+    same-length
+    returns
+    cast-n
+    loaded-at-requires
+    mul-seconds
+    shared-slice-read-seconds
+    seconds-requires
+    verify-block-requires
+    same-length-2
+    returns-2)

@@ -1,0 +1,8 @@
+pub mod Widths
+pub mod Fuel
+pub mod Entered
+pub mod Sizes
+pub mod Prices
+pub mod Signs
+pub mod Starts
+mod Examples

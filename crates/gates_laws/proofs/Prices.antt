@@ -1,0 +1,261 @@
+-- What the verify price is, whatever the number of tokens: on a curve without holes it is finite, and with holes the two entries around the mean width say
+-- exactly where it is finite, infinite or no number. Assumes nothing.
+use mathlib.Core.Path.{_≡_, refl, sym, ap, _∙_}
+use mathlib.Core.Logic.{_⊎_, inl, inr, ⊎-elim}
+use mathlib.Core.Bool.{Bool, true, false, not, cond}
+use mathlib.Core.List.{List}
+use Prim.Native.Nat.{ℕ, zero, suc, _+_, _-_, _*_, _^_, _≤_, _<_, min}
+use native.Mathlib.Nat.{mul-one, mul-pos, mul-right-comm, le-of-mul-le-mul-right, le-trans, le-of-eq, zero-lt-suc}
+use native.Mathlib.Omega.{arith}
+use borrow.Author.Tests.{ltb-false, ltb-true, le-ltb, ne-eqb}
+use lib.Dec.{ltb, eqb}
+use lib.ListN.{length, getD}
+use lib.Ieee.{Float, nan, inf, fin, binary64, up, down, ofBits, ofInt, neg, add, sub, mul, lt, isNan, toUnsigned}
+use lib.Ieee.Fits.{down-pos}
+use lib.Ieee.Exact.{HasValue}
+use Rattle.float.specs.Floats.{plus, less, times, over, whole, f0, f1, infinity, maxOf, clampTo, isFinite}
+use Rattle.float.specs.Range.{inRange}
+use Rattle.float.proofs.Classes.{clash, is-nan}
+use Rattle.float.proofs.Order.{nan-not-above}
+use Rattle.float.proofs.Ranges.{range-no-nan, range-low, range-high, or-says, or-range}
+use Rattle.float.proofs.Clamped.{clamp-low, clamp-high}
+use Rattle.numeral.proofs.Rounding.{whole-held}
+use Rattle.speculative.specs.Drafter.{billion}
+use Rattle.chains.specs.Tests.{isPrice}
+use Rattle.verdict.specs.Price.{meanWidth, segment, between, verifyCost}
+use Rattle.verdict.specs.Decision.{tiny, rateOf, Sums, passed, nextSeconds, slotAt}
+use Rattle.gates_laws.specs.Holes.{Class, finite, infinite, noNumber, classOf, isHole, depthBelow, isBehind, entryBelow, entryAbove, classAt}
+use Rattle.gates_laws.proofs.Sizes.{Sized, sized-finite, sized-more, whole-sized, sized-plus, sized-less, sized-times}
+
+-- ---- what lies from 0 to a whole number is no larger
+zero-sum : (a b : ℕ) → ltb 0 (a + b) ≡ false → a ≡ 0
+zero-sum a b h = let l = ltb-false 0 (a + b) h in omega arith
+
+zero-product : (m u d : ℕ) → 0 < d → m * u * d ≡ 0 → m * u ≡ 0
+zero-product m u d h e = go (m * u) e
+  where
+    go : (x : ℕ) → x * d ≡ 0 → x ≡ 0
+    go zero p = refl
+    go (suc x) p = absurd (let l : 0 < suc x * d = mul-pos (zero-lt-suc x) h in let w : ⊥ = omega arith in w)
+
+pub between-sized : (x y : Float) (A : ℕ) → HasValue y false A 1 → isNan x ≡ false → lt x f0 ≡ false → lt y x ≡ false → Sized A x
+unfolding lt isNan ofBits
+between-sized nan y A v n l h = clash (sym n)
+between-sized (inf true) y A v n l h = clash (sym l)
+between-sized (inf false) nan A v n l h = absurd v
+between-sized (inf false) (inf s) A v n l h = absurd v
+between-sized (inf false) (fin s k d) A v n l h = clash (sym h)
+between-sized (fin true m e) y A v n l h =
+    let z : m * up e ≡ 0 = zero-product m (up e) 1 (zero-lt-suc 0) (zero-sum (m * up e * 1) (0 * down e) l) in
+    omega arith
+between-sized (fin false m e) nan A v n l h = absurd v
+between-sized (fin false m e) (inf s) A v n l h = absurd v
+between-sized (fin false m e) (fin true k d) A v n l h = let w = v .0 in clash (sym w)
+between-sized (fin false m e) (fin false k d) A v n l h =
+    let p : m * up e * down d ≤ k * up d * down e = ltb-false (k * up d * down e) (m * up e * down d) h in
+    let q : k * up d ≡ A * down d = sym (mul-one (k * up d)) ∙ v .1 in
+    let r : k * up d * down e ≡ A * down e * down d = ap (λ (z : ℕ). z * down e) q ∙ mul-right-comm A (down d) (down e) in
+    le-of-mul-le-mul-right (le-trans p (le-of-eq r)) (down-pos d)
+
+billion-held : HasValue billion false 1000000000 1
+unfolding ofBits
+billion-held = (refl, refl)
+
+price-sized : (c : Float) → inRange f0 billion c ≡ true → Sized 1000000000 c
+price-sized c h =
+    between-sized c billion 1000000000 billion-held (range-no-nan f0 billion c h) (range-low f0 billion c h) (range-high f0 billion c h)
+
+whole-value : (n : ℕ) → n < 2 ^ 53 → HasValue (whole n) false n 1
+unfolding ofInt
+whole-value n h = whole-held binary64 n h
+
+-- ---- the mean width is a NaN, or at most gamma
+held-not-below : (x : Float) (n : ℕ) → HasValue x false n 1 → lt x f0 ≡ false
+unfolding lt ofBits
+held-not-below nan n v = refl
+held-not-below (inf s) n v = absurd v
+held-not-below (fin true m e) n v = let w = v .0 in clash (sym w)
+held-not-below (fin false m e) n v = le-ltb (m * up e * 1) (0 * down e) (omega arith)
+
+not-below-zero : (n : ℕ) → n < 2 ^ 53 → lt (whole n) f0 ≡ false
+not-below-zero n h = held-not-below (whole n) n (whole-value n h)
+
+width-sized : (gamma n : ℕ) (t : Float) → gamma ≤ 64 → isNan (meanWidth gamma n t) ≡ false → Sized gamma (meanWidth gamma n t)
+width-sized gamma n t h k =
+    let x = less (over t (whole n)) f1 in
+    between-sized (meanWidth gamma n t) (whole gamma) gamma (whole-value gamma (omega arith)) k (clamp-low x f0 (whole gamma) (not-below-zero gamma (omega arith)))
+    (clamp-high x f0 (whole gamma))
+
+nan-part : (s : ℕ) → lt f0 (less nan (whole s)) ≡ false
+unfolding sub add
+nan-part s = nan-not-above f0
+
+-- ---- an entry of a curve is a price or a hole
+abbrev Entry : Float → Type 0
+Entry c = Sized 1000000000 c ⊎ (c ≡ inf false)
+
+entry-of : (c : Float) → isPrice c ≡ true → Entry c
+unfolding ofBits
+entry-of c h = ⊎-elim (λ (r : inRange f0 billion c ≡ true). inl (price-sized c r)) (λ (e : c ≡ infinity). inr e) (or-says f0 billion c h)
+
+sized-class : (A : ℕ) (x : Float) → Sized A x → classOf x ≡ finite
+sized-class A nan h = absurd h
+sized-class A (inf s) h = absurd h
+sized-class A (fin s m e) h = refl
+
+no-hole : (c : Float) → Sized 1000000000 c → isHole c ≡ false
+no-hole c h = ap not (sized-finite 1000000000 c h)
+
+a-hole : (c : Float) → c ≡ inf false → isHole c ≡ true
+unfolding isFinite
+a-hole c e = ap isHole e
+
+-- ---- at a depth
+at-depth : (c : Float) (above : Bool) → Entry c → classOf c ≡ classAt false (isHole c) above
+at-depth c above (inl s) = sized-class 1000000000 c s ∙ ap (λ (b : Bool). classAt false b above) (sym (no-hole c s))
+at-depth c above (inr e) = ap classOf e ∙ ap (λ (b : Bool). classAt false b above) (sym (a-hole c e))
+
+-- ---- on the way to the next
+up-to-hole : (x : Float) → lt f0 x ≡ true → isFinite x ≡ true → times x (inf false) ≡ inf false
+unfolding lt isFinite mul ofBits
+up-to-hole nan h k = clash h
+up-to-hole (inf t) h k = clash k
+up-to-hole (fin true m e) h k = clash h
+up-to-hole (fin false zero e) h k = let l = ltb-true (0 * down e) (0 * up e * 1) h in absurd (omega arith)
+up-to-hole (fin false (suc m) e) h k = let z : suc m ≡ 0 → ⊥ = λ q. omega arith in rw (ne-eqb (suc m) 0 z)
+
+down-from-hole : (x : Float) → lt f0 x ≡ true → isFinite x ≡ true → times x (inf true) ≡ inf true
+unfolding lt isFinite mul ofBits
+down-from-hole nan h k = clash h
+down-from-hole (inf t) h k = clash k
+down-from-hole (fin true m e) h k = clash h
+down-from-hole (fin false zero e) h k = let l = ltb-true (0 * down e) (0 * up e * 1) h in absurd (omega arith)
+down-from-hole (fin false (suc m) e) h k = let z : suc m ≡ 0 → ⊥ = λ q. omega arith in rw (ne-eqb (suc m) 0 z)
+
+rise-to : (c : Float) → isFinite c ≡ true → less (inf false) c ≡ inf false
+unfolding isFinite sub add neg
+rise-to nan k = clash k
+rise-to (inf t) k = clash k
+rise-to (fin t m e) k = refl
+
+onto : (c : Float) → isFinite c ≡ true → plus c (inf false) ≡ inf false
+unfolding isFinite add
+onto nan k = clash k
+onto (inf t) k = clash k
+onto (fin t m e) k = refl
+
+fall-from : (d : Float) → isFinite d ≡ true → less d (inf false) ≡ inf true
+unfolding isFinite sub add neg
+fall-from nan k = clash k
+fall-from (inf t) k = clash k
+fall-from (fin t m e) k = refl
+
+through : (x : Float) → plus (inf false) (times x (less (inf false) (inf false))) ≡ nan
+unfolding add sub mul neg
+through nan = refl
+through (inf t) = refl
+through (fin t m e) = refl
+
+back : plus (inf false) (inf true) ≡ nan
+unfolding add
+back = refl
+
+-- `frac` of the way from c to d
+abbrev onTheWay : Float → Float → Float → Float
+onTheWay frac c d = plus c (times frac (less d c))
+
+module _ (frac : Float) (h : lt f0 frac ≡ true) (s : Sized 128 frac) where
+  part : isFinite frac ≡ true
+  part = sized-finite 128 frac s
+
+  pub to-a-hole : (c d : Float) → isFinite c ≡ true → d ≡ inf false → onTheWay frac c d ≡ inf false
+  to-a-hole c d k e =
+      ap (onTheWay frac c) e ∙ ap (λ (x : Float). plus c (times frac x)) (rise-to c k) ∙ ap (plus c) (up-to-hole frac h part) ∙ onto c k
+
+  pub from-a-hole : (c d : Float) → c ≡ inf false → isFinite d ≡ true → onTheWay frac c d ≡ nan
+  from-a-hole c d e k =
+      ap (λ (x : Float). onTheWay frac x d) e ∙ ap (λ (x : Float). plus (inf false) (times frac x)) (fall-from d k)
+      ∙ ap (plus (inf false)) (down-from-hole frac h part) ∙ back
+
+  pub between-holes : (c d : Float) → c ≡ inf false → d ≡ inf false → onTheWay frac c d ≡ nan
+  between-holes c d e g = ap (λ (x : Float). onTheWay frac x d) e ∙ ap (onTheWay frac (inf false)) g ∙ through frac
+
+  between-prices : (c d : Float) → Sized 1000000000 c → Sized 1000000000 d → Sized 257000000000 (onTheWay frac c d)
+  between-prices c d p q =
+      let rise = sized-less 1000000000 1000000000 d c (omega arith) q p in
+      let way = sized-times 128 2000000000 frac (less d c) (omega arith) s rise in
+      sized-plus 1000000000 256000000000 c (times frac (less d c)) (omega arith) p way
+
+  behind : (c d : Float) → Entry c → Entry d → classOf (onTheWay frac c d) ≡ classAt true (isHole c) (isHole d)
+  behind c d (inl p) (inl q) = rw (no-hole c p, no-hole d q) (sized-class 257000000000 (onTheWay frac c d) (between-prices c d p q))
+  behind c d (inl p) (inr e) = rw (no-hole c p, a-hole d e) (ap classOf (to-a-hole c d (sized-finite 1000000000 c p) e))
+  behind c d (inr e) (inl q) = rw (a-hole c e) (ap classOf (from-a-hole c d e (sized-finite 1000000000 d q)))
+  behind c d (inr e) (inr g) = rw (a-hole c e) (ap classOf (between-holes c d e g))
+
+-- ---- the price
+module _ (curve : List Float) (many : 1 < length curve) (few : length curve ≤ 65) (n : ℕ) (t : Float) where
+  -- behind a depth the way is a number, and at most gamma long
+  way-sized : isBehind curve n t ≡ true → Sized 128 (less (meanWidth (length curve - 1) n t) (whole (depthBelow curve n t)))
+  way-sized h = go (isNan (meanWidth (length curve - 1) n t)) refl
+    where
+      go : (b : Bool) → isNan (meanWidth (length curve - 1) n t) ≡ b → Sized 128 (less (meanWidth (length curve - 1) n t) (whole (depthBelow curve n t)))
+      go true e = clash (sym (ap (λ (v : Float). lt f0 (less v (whole (depthBelow curve n t)))) (is-nan (meanWidth (length curve - 1) n t) e) ∙ nan-part (depthBelow curve n t)) ∙ h)
+      go false e =
+          sized-less 64 64 (meanWidth (length curve - 1) n t) (whole (depthBelow curve n t)) (omega arith)
+          (sized-more (length curve - 1) 64 (meanWidth (length curve - 1) n t) (omega arith) (width-sized (length curve - 1) n t (omega arith) e))
+          (sized-more (depthBelow curve n t) 64 (whole (depthBelow curve n t)) (omega arith) (whole-sized (depthBelow curve n t) (omega arith)))
+
+  module _ (prices : (g : ℕ) → g < length curve → isPrice (getD curve g nan) ≡ true) where
+    below : Entry (entryBelow curve n t)
+    below = entry-of (entryBelow curve n t) (prices (depthBelow curve n t) (omega arith))
+
+    above : Entry (entryAbove curve n t)
+    above = entry-of (entryAbove curve n t) (prices (depthBelow curve n t + 1) (omega arith))
+
+    -- exactly where the price is finite, infinite or no number
+    pub price-class : classOf (verifyCost curve n t) ≡ classAt (isBehind curve n t) (isHole (entryBelow curve n t)) (isHole (entryAbove curve n t))
+    unfolding verifyCost
+    price-class = go (isBehind curve n t) refl
+      where
+        go : (b : Bool) → isBehind curve n t ≡ b
+            → classOf (cond b (onTheWay (less (meanWidth (length curve - 1) n t) (whole (depthBelow curve n t))) (entryBelow curve n t) (entryAbove curve n t)) (entryBelow curve n t))
+            ≡ classAt b (isHole (entryBelow curve n t)) (isHole (entryAbove curve n t))
+        go true e = behind (less (meanWidth (length curve - 1) n t) (whole (depthBelow curve n t))) e (way-sized e) (entryBelow curve n t) (entryAbove curve n t) below above
+        go false e = at-depth (entryBelow curve n t) (isHole (entryAbove curve n t)) below
+
+-- ---- no holes
+class-finite : (x : Float) → classOf x ≡ finite → isFinite x ≡ true
+unfolding isFinite
+class-finite nan h = cc
+class-finite (inf s) h = cc
+class-finite (fin s m e) h = refl
+
+all-finite : (b : Bool) → classAt b false false ≡ finite
+all-finite true = refl
+all-finite false = refl
+
+pub price-finite :
+    (curve : List Float) → 1 < length curve → length curve ≤ 65 → ((g : ℕ) → g < length curve → inRange f0 billion (getD curve g nan) ≡ true)
+    → (n : ℕ) (t : Float) → isFinite (verifyCost curve n t) ≡ true
+price-finite curve many few whole-curve n t =
+    let none : (g : ℕ) → g < length curve → isHole (getD curve g nan) ≡ false = λ g l. no-hole (getD curve g nan) (price-sized (getD curve g nan) (whole-curve g l)) in
+    let e = price-class curve many few n t (λ g l. or-range f0 billion (getD curve g nan) (whole-curve g l)) in
+    let b : isHole (entryBelow curve n t) ≡ false = none (depthBelow curve n t) (omega arith) in
+    let a : isHole (entryAbove curve n t) ≡ false = none (depthBelow curve n t + 1) (omega arith) in
+    class-finite (verifyCost curve n t)
+    (e ∙ ap (λ (x : Bool). classAt (isBehind curve n t) x (isHole (entryAbove curve n t))) b ∙ ap (λ (x : Bool). classAt (isBehind curve n t) false x) a ∙ all-finite (isBehind curve n t))
+
+-- ---- what a gate makes of such a price
+
+-- one that is no number is taken for 1e-12 seconds, whatever the drafter's
+pub taken-for-tiny : (expected drafter : Float) → rateOf expected (plus nan drafter) ≡ over expected tiny
+unfolding add maxOf lt isNan
+taken-for-tiny expected drafter = refl
+
+pub removed-for-tiny : (expected drafter margin : Float) → rateOf expected (less (plus nan drafter) margin) ≡ over expected tiny
+unfolding sub add maxOf lt isNan
+removed-for-tiny expected drafter margin = refl
+
+-- the block gate passes over a slot whose next price is no number or infinite
+pub hole-passed : (price : Float → Float) (a : Sums) (s : Float) → isFinite (nextSeconds price a) ≡ false → slotAt price a s ≡ passed
+hole-passed price a s h = rw h

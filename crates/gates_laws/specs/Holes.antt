@@ -1,0 +1,44 @@
+-- Where the verify price of t tokens over n sequences lies on a curve, and what it can be: finite, infinite, or no number. Assumes nothing.
+use Prim.Native.Nat.{ℕ, _+_, _-_}
+use mathlib.Core.Bool.{Bool, true, false, not}
+use mathlib.Core.List.{List}
+use lib.ListN.{length, getD}
+use lib.Ieee.{Float, nan, inf, fin, lt}
+use Rattle.float.specs.Floats.{less, whole, f0, isFinite}
+use Rattle.verdict.specs.Price.{meanWidth, segment}
+
+pub data Class : Type 0 where
+  finite infinite noNumber : Class
+
+abbrev pub classOf : Float → Class
+classOf nan = noNumber
+classOf (inf s) = infinite
+classOf (fin s m e) = finite
+
+-- no price stands there
+abbrev pub isHole : Float → Bool
+isHole c = not (isFinite c)
+
+module _ (curve : List Float) (n : ℕ) (t : Float) where
+  -- the depth at or below the mean width, and never the last one
+  abbrev pub depthBelow : ℕ
+  depthBelow = segment (length curve - 1) (meanWidth (length curve - 1) n t)
+
+  -- the mean width lies behind that depth, and not at it
+  abbrev pub isBehind : Bool
+  isBehind = lt f0 (less (meanWidth (length curve - 1) n t) (whole depthBelow))
+
+  -- the entries around the mean width
+  abbrev pub entryBelow : Float
+  entryBelow = getD curve depthBelow nan
+
+  abbrev pub entryAbove : Float
+  entryAbove = getD curve (depthBelow + 1) nan
+
+-- behind, below, above: at a depth the price is its entry; on the way from a price to a hole it is infinite; on the way from a hole it is no number
+abbrev pub classAt : Bool → Bool → Bool → Class
+classAt false false above = finite
+classAt false true above = infinite
+classAt true false false = finite
+classAt true false true = infinite
+classAt true true above = noNumber

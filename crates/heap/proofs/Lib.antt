@@ -1,0 +1,9 @@
+pub mod Weights
+pub mod Entries
+pub mod Order
+pub mod Sift
+pub mod Frontiers
+pub mod Next
+pub mod Tops
+pub mod Steps
+pub mod Turns

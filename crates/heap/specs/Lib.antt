@@ -1,0 +1,3 @@
+pub mod Frontier
+pub mod Heap
+pub mod Greedy

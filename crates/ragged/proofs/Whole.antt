@@ -1,0 +1,47 @@
+-- From the parts of a gate to the whole: at depth 0 there is nothing to weigh. Assumes nothing.
+use Prim.Native.Nat.{ℕ, _≤_}
+use mathlib.Core.Path.{_≡_, sym, ap, _∙_}
+use mathlib.Core.Bool.{Bool, true, false, cond}
+use mathlib.Core.List.{List}
+use lib.Dec.{eqb}
+use native.Mathlib.Omega.{arith}
+use borrow.Author.Tests.{eq-eqb, ne-eqb}
+use lib.ListN.{length, getD, replicate}
+use lib.Ieee.{Float, nan}
+use Rattle.speculative.specs.declared.drafter.Rates.{Rates}
+use Rattle.speculative.specs.declared.drafter.DrafterCost.{DrafterCost}
+use Rattle.slots.specs.Gate.{Chosen}
+use Rattle.slots.specs.Slots.{Fits, AtMost, starts}
+use Rattle.trim.specs.Ragged.{passOf, raggedWidths, raggedGate}
+use Rattle.slots.proofs.Stacked.{starts-length, starts-at}
+use Rattle.slots.proofs.Rooms.{fits-starts}
+use Rattle.trim.proofs.Adding.{starts-zero}
+
+first : (b : Bool) (x y : Chosen) → b ≡ true → x ≡ cond b x y
+first b x y e = rw e
+
+second : (b : Bool) (x y : Chosen) → b ≡ false → y ≡ cond b x y
+second b x y e = rw e
+
+-- ---- the ragged gate, which starts from the widths W
+pub ragged-fits :
+    (depth : ℕ) {chains : List Float} {lengths W : List ℕ} → Fits chains lengths (length lengths) → W ≡ starts depth lengths → Fits chains W (length W) × AtMost depth W
+ragged-fits depth {lengths = lengths} fits e =
+    rw e
+    (rw (sym (starts-length depth lengths)) at (fits-starts depth fits), λ k l. omega (arith, starts-at depth lengths k (omega (arith, starts-length depth lengths))))
+
+module _ (price : ℕ → Float → Float) (chains : List Float) (lengths : List ℕ) (depth : ℕ) (kind : DrafterCost) (rates : Rates) (loaded : List Float)
+    (W : List ℕ) (w : W ≡ starts depth lengths) where
+  pub ragged-none : depth ≡ 0 → record { widths = W; weighed = 0 } ≡ raggedGate (price (length lengths)) chains lengths depth kind rates loaded
+  unfolding raggedGate
+  ragged-none z = ap (λ (l : List ℕ). record { widths = l; weighed = 0 }) (w ∙ starts-zero depth lengths z) ∙ first (eqb depth 0) _ _ (eq-eqb depth 0 z)
+
+  pub ragged-some :
+      (depth ≡ 0 → ⊥) → (answer : Chosen) → answer ≡ raggedWidths (passOf kind rates loaded) (price (length W)) chains depth W
+      → answer ≡ raggedGate (price (length lengths)) chains lengths depth kind rates loaded
+  unfolding raggedGate
+  ragged-some h answer e =
+      let long : length W ≡ length lengths = ap length w ∙ starts-length depth lengths in
+      let pass = passOf kind rates loaded in
+      e ∙ ap (λ (n : ℕ). raggedWidths pass (price n) chains depth W) long ∙ ap (raggedWidths pass (price (length lengths)) chains depth) w
+      ∙ second (eqb depth 0) _ _ (ne-eqb depth 0 h)

@@ -1,0 +1,2 @@
+pub mod Stacked
+pub mod Rooms

@@ -1,0 +1,2 @@
+pub mod Ragged
+pub mod Kept

@@ -1,0 +1,190 @@
+// The ragged gate's weighing: the deepest slots are given back while that pays.
+use slots::inner::Slot;
+use slots::inner::flip;
+use slots::inner::survival_at;
+use verdict::inner::Tally;
+use verdict::inner::Verdict;
+ghost use mathlib.Core.Path.{_≡_};
+ghost use Prim.Native.Nat.{_+_, _-_, _*_, _≤_, _<_};
+ghost use lib.ListN.{length, getD, set, drop};
+ghost use Rattle.heap.specs.Heap.{Stands, Holds, candidate};
+ghost use Rattle.heap.specs.Greedy.{headOf, frontier};
+ghost use Rattle.verdict.specs.Price.{verifyCost};
+ghost use Rattle.verdict.specs.Decision.{removalAt};
+ghost use Rattle.verdict.specs.Tallies.{sumsOf, decisionOf, Rated, StillRated};
+ghost use Rattle.slots.specs.Slots.{Fits, AtMost, stacks, downFrom, survival};
+ghost use Rattle.slots.specs.Gate.{Chosen};
+ghost use Rattle.trim.specs.Ragged.{marginOf, fullDraft, raggedWidths};
+ghost use Rattle.trim.specs.Kept.{Counts, listed};
+
+// The rank of the deepest of w slots of sequence k, if there is one.
+fn deepest(chains: &[f64], k: usize, w: u32) -> Slot
+    requires { ⌜ (k * 64 + 64 ≤ length (now chains)) × (w ≤ 64) ⌝ }
+    ensures { λ s. ⌜ candidate (s .more) (s .rank) ≡ headOf (downFrom w (drop (k * 64) (now (chains .entry)))) ⌝ }
+{
+    if 0 < w {
+        Slot {
+            more: true,
+            rank: flip(float::bits(survival_at(chains, k, w - 1))),
+        }
+    } else {
+        Slot {
+            more: false,
+            rank: 0,
+        }
+    }
+}
+
+// An entry for each sequence that has a slot: its deepest; says how many.
+fn fill(chains: &[f64], widths: &[u32], rank: &mut [u64], seq: &mut [u64]) -> usize
+    requires { ⌜ Fits (now chains) (now widths) (length (now widths)) ⌝ }
+    requires { ⌜ (length (now widths) ≤ length (now rank)) × (length (now widths) ≤ length (now seq)) ⌝ }
+    ensures { λ m. ⌜ (m ≤ length (now (widths .entry))) × Stands (now (rank .exit)) (now (seq .exit)) m (frontier (stacks downFrom (now (widths .entry)) (now (chains .entry)))) ⌝ }
+{
+    let mut m: usize = 0;
+    let mut k: usize = 0;
+    while k < widths.len() {
+        let j = k;
+        k += 1;
+        let slot = deepest(chains, j, widths[j]);
+        if slot.more {
+            rank[m] = slot.rank;
+            seq[m] = j as u64;
+            m += 1;
+        }
+    }
+    m
+}
+
+// Makes entry k one less; says what it is then.
+fn less_one(list: &mut [u32], k: usize) -> u32
+    requires { ⌜ (k < length (now list)) × (0 < getD (now list) k 0) ⌝ }
+    ensures { λ r. ⌜ (r ≡ getD (now (list .entry)) k 0 - 1) × (now (list .exit) ≡ set (now (list .entry)) k (getD (now (list .entry)) k 0 - 1)) ⌝ }
+{
+    let w = list[k] - 1;
+    list[k] = w;
+    w
+}
+
+// What the last of m sequences adds to a pass.
+fn margin(passes: &[f64], m: u32) -> f64
+    requires { ⌜ (0 < m) × (m < length (now passes)) ⌝ }
+    ensures { λ r. ⌜ r ≡ marginOf (listed (now (passes .entry))) m ⌝ }
+{
+    let at = m as usize;
+    passes[at] - passes[at - 1]
+}
+
+// The verdict on the deepest slot of sequence k.
+fn weigh(
+    chains: &[f64],
+    curve: &[f64],
+    widths: &[u32],
+    nk: &[u32],
+    passes: &[f64],
+    k: usize,
+    n: u32,
+    tally: Tally,
+) -> Verdict
+    requires { ⌜ (k * 64 + 64 ≤ length (now chains)) × (k < length (now widths)) ⌝ }
+    requires { ⌜ (0 < getD (now widths) k 0) × (getD (now widths) k 0 ≤ 64) ⌝ }
+    requires { ⌜ (length (now nk) ≡ 64) × (0 < getD (now nk) (getD (now widths) k 0 - 1) 0) × (getD (now nk) (getD (now widths) k 0 - 1) 0 < length (now passes)) ⌝ }
+    requires { ⌜ (1 < length (now curve)) × (length (now curve) ≤ 65) ⌝ }
+    requires { ⌜ Rated (verifyCost (now curve) n) tally ⌝ }
+    ensures decided { λ r. ⌜ decisionOf r ≡ removalAt (verifyCost (now (curve .entry)) n) (sumsOf tally) (survival (now (chains .entry)) k (getD (now (widths .entry)) k 0 - 1)) (marginOf (listed (now (passes .entry))) (getD (now (nk .entry)) (getD (now (widths .entry)) k 0 - 1) 0)) ⌝ }
+    ensures rated { λ r. ⌜ StillRated (verifyCost (now (curve .entry)) n) r ⌝ }
+{
+    let d = widths[k] - 1;
+    let s = survival_at(chains, k, d);
+    let cost = margin(passes, nk[d as usize]);
+    tally.without(s, cost, curve, n)
+}
+
+// Weighs slots until none is left; says how many.
+fn weigh_all(
+    chains: &[f64],
+    curve: &[f64],
+    n: u32,
+    depth: u32,
+    passes: &[f64],
+    start: Tally,
+    first: usize,
+    rank: &mut [u64],
+    seq: &mut [u64],
+    nk: &mut [u32],
+    widths: &mut [u32],
+) -> usize
+    requires { ⌜ Fits (now chains) (now widths) n ⌝ }
+    requires { ⌜ AtMost depth (now widths) × (depth ≤ 64) × Counts (now nk) (now widths) depth ⌝ }
+    requires { ⌜ (1 < length (now curve)) × (length (now curve) ≤ 65) ⌝ }
+    requires { ⌜ n < length (now passes) ⌝ }
+    requires { ⌜ (n ≤ length (now rank)) × (n ≤ length (now seq)) × (first ≤ n) ⌝ }
+    requires { ⌜ sumsOf start ≡ fullDraft (listed (now passes)) (now chains) depth (now widths) .sums ⌝ }
+    requires { ⌜ Rated (verifyCost (now curve) n) start ⌝ }
+    requires { ⌜ Holds (now rank) (now seq) first (frontier (stacks downFrom (now widths) (now chains))) ⌝ }
+    ensures { λ w. ⌜ record { widths = now (widths .exit); weighed = w } ≡ raggedWidths (listed (now (passes .entry))) (verifyCost (now (curve .entry)) n) (now (chains .entry)) depth (now (widths .entry)) ⌝ }
+{
+    let mut live = first;
+    let mut weighed: usize = 0;
+    let mut tally = start;
+    while 0 < live {
+        let k = seq[0] as usize;
+        weighed += 1;
+        let verdict = weigh(chains, curve, widths, nk, passes, k, n, tally);
+        match verdict {
+            Verdict::Stop => {
+                return weighed;
+            }
+            Verdict::Pass => {
+                live = heap::inner::settle(rank, seq, live, false, 0);
+            }
+            Verdict::Take(next) => {
+                tally = next;
+                let w = less_one(widths, k);
+                less_one(nk, w as usize);
+                let slot = deepest(chains, k, w);
+                live = heap::inner::settle(rank, seq, live, slot.more, slot.rank);
+            }
+        }
+    }
+    weighed
+}
+
+// The gate from widths that the whole draft has, with the tally and the counts of it.
+pub fn trim_from(
+    chains: &[f64],
+    curve: &[f64],
+    depth: u32,
+    passes: &[f64],
+    start: Tally,
+    rank: &mut [u64],
+    seq: &mut [u64],
+    nk: &mut [u32],
+    widths: &mut [u32],
+) -> usize
+    requires { ⌜ Fits (now chains) (now widths) (length (now widths)) ⌝ }
+    requires { ⌜ AtMost depth (now widths) × (depth ≤ 64) × Counts (now nk) (now widths) depth ⌝ }
+    requires { ⌜ (1 < length (now curve)) × (length (now curve) ≤ 65) ⌝ }
+    requires { ⌜ length (now widths) < length (now passes) ⌝ }
+    requires { ⌜ (length (now widths) ≤ length (now rank)) × (length (now widths) ≤ length (now seq)) ⌝ }
+    requires { ⌜ sumsOf start ≡ fullDraft (listed (now passes)) (now chains) depth (now widths) .sums ⌝ }
+    requires { ⌜ Rated (verifyCost (now curve) (length (now widths))) start ⌝ }
+    ensures { λ w. ⌜ record { widths = now (widths .exit); weighed = w } ≡ raggedWidths (listed (now (passes .entry))) (verifyCost (now (curve .entry)) (length (now (widths .entry)))) (now (chains .entry)) depth (now (widths .entry)) ⌝ }
+{
+    let n = widths.len() as u32;
+    let live = fill(chains, widths, rank, seq);
+    heap::inner::heapify(rank, seq, live);
+    weigh_all(
+        chains,
+        curve,
+        n,
+        depth,
+        passes,
+        start,
+        live,
+        rank,
+        seq,
+        nk,
+        widths,
+    )
+}

@@ -1,0 +1,3 @@
+pub mod Price
+pub mod Decision
+pub mod Tallies

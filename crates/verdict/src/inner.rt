@@ -1,0 +1,144 @@
+// The verify price between depths, and the verdict of either gate on one slot. A curve has a price for each depth from 0 to gamma.
+ghost use mathlib.Core.Path.{_≡_};
+ghost use Prim.Native.Nat.{_<_, _≤_, _-_};
+ghost use lib.ListN.{length};
+ghost use Rattle.float.specs.Floats.{plus, less, f1};
+ghost use Rattle.verdict.specs.Price.{meanWidth, segment, verifyCost};
+ghost use Rattle.verdict.specs.Decision.{rateOf, removalAt, slotAt};
+ghost use Rattle.verdict.specs.Tallies.{tallied, sumsOf, decisionOf, Rated, StillRated, removedAt, addedAt};
+
+// The expected tokens, the verify tokens and the drafter's seconds so far, and the tokens a second that they make.
+pub struct Tally {
+    pub expected: f64,
+    pub tokens: f64,
+    pub drafter: f64,
+    pub rate: f64,
+}
+
+// A slot is passed over, or the gate stops, or the slot is taken.
+pub enum Verdict {
+    Pass,
+    Stop,
+    Take(Tally),
+}
+
+// The mean draft width that `t` verify tokens over `n` sequences imply.
+fn mean_width(gamma: u32, n: u32, t: f64) -> f64
+    ensures { λ r. ⌜ r ≡ meanWidth gamma n t ⌝ }
+{
+    float::clamp(t / n as f64 - 1.0, 0.0, gamma as f64)
+}
+
+// The depth below the width w, and never the last one.
+fn segment_of(gamma: u32, w: f64) -> usize
+    requires { ⌜ 0 < gamma ⌝ }
+    ensures { λ r. ⌜ r ≡ segment gamma w ⌝ }
+{
+    let below = numeral::whole_part(w) as usize;
+    let last = gamma as usize - 1;
+    if below < last { below } else { last }
+}
+
+// The curve's price at that mean width, straight between the two depths around it.
+pub fn verify_cost(curve: &[f64], n: u32, t: f64) -> f64
+    requires { ⌜ (1 < length (now curve)) × (length (now curve) ≤ 65) ⌝ }
+    ensures { λ r. ⌜ r ≡ verifyCost (now (curve .entry)) n t ⌝ }
+{
+    let gamma = (curve.len() - 1) as u32;
+    let w = mean_width(gamma, n, t);
+    let seg = segment_of(gamma, w);
+    let frac = w - seg as f64;
+    if frac > 0.0 {
+        curve[seg] + frac * (curve[seg + 1] - curve[seg])
+    } else {
+        curve[seg]
+    }
+}
+
+// Tokens a second.
+fn rate(expected: f64, seconds: f64) -> f64
+    ensures { λ r. ⌜ r ≡ rateOf expected seconds ⌝ }
+{
+    expected / float::max(seconds, 1e-12)
+}
+
+// A tally, where `price` is the verify price of the tokens.
+fn tallied(expected: f64, tokens: f64, drafter: f64, price: f64) -> Tally
+    ensures { λ r. ⌜ r ≡ tallied expected tokens drafter price ⌝ }
+{
+    Tally {
+        expected,
+        tokens,
+        drafter,
+        rate: rate(expected, price + drafter),
+    }
+}
+
+// What a gate starts from.
+pub fn starting(expected: f64, tokens: f64, drafter: f64, curve: &[f64], n: u32) -> Tally
+    requires { ⌜ (1 < length (now curve)) × (length (now curve) ≤ 65) ⌝ }
+    ensures sums { λ r. ⌜ sumsOf r ≡ record { expected = expected; tokens = tokens; drafter = drafter } ⌝ }
+    ensures rated { λ r. ⌜ Rated (verifyCost (now (curve .entry)) n) r ⌝ }
+{
+    let price = verify_cost(curve, n, tokens);
+    tallied(expected, tokens, drafter, price)
+}
+
+impl Tally {
+    // The ragged gate, where `vp` is the price of one token less.
+    fn removal(self, s: f64, margin: f64, vp: f64) -> Verdict
+        ensures { λ r. ⌜ r ≡ removedAt self s margin vp ⌝ }
+    {
+        let expected = self.expected - s;
+        let rem = rate(expected, vp + self.drafter - margin);
+        if rem > self.rate {
+            Verdict::Take(tallied(expected, self.tokens - 1.0, self.drafter - margin, vp))
+        } else {
+            Verdict::Pass
+        }
+    }
+
+    // Is the tally better without a slot of survival s whose drafting costs `margin`?
+    pub fn without(self, s: f64, margin: f64, curve: &[f64], n: u32) -> Verdict
+        requires { ⌜ (1 < length (now curve)) × (length (now curve) ≤ 65) ⌝ }
+        requires { ⌜ Rated (verifyCost (now curve) n) self ⌝ }
+        ensures decided { λ r. ⌜ decisionOf r ≡ removalAt (verifyCost (now (curve .entry)) n) (sumsOf self) s margin ⌝ }
+        ensures rated { λ r. ⌜ StillRated (verifyCost (now (curve .entry)) n) r ⌝ }
+    {
+        let vp = verify_cost(curve, n, self.tokens - 1.0);
+        self.removal(s, margin, vp)
+    }
+
+    // The block gate, where `vn` is the price of one token more.
+    fn slot(self, s: f64, vn: f64) -> Verdict
+        ensures { λ r. ⌜ r ≡ addedAt self s vn ⌝ }
+    {
+        let seconds = vn + self.drafter;
+        if !float::is_finite(seconds) {
+            return Verdict::Pass;
+        }
+        let expected = self.expected + s;
+        let nxt = rate(expected, seconds);
+        if nxt > self.rate {
+            Verdict::Take(Tally {
+                expected,
+                tokens: self.tokens + 1.0,
+                drafter: self.drafter,
+                rate: nxt,
+            })
+        } else {
+            Verdict::Stop
+        }
+    }
+
+    // Is the tally better with a slot of survival s?
+    pub fn with_slot(self, s: f64, curve: &[f64], n: u32) -> Verdict
+        requires { ⌜ (1 < length (now curve)) × (length (now curve) ≤ 65) ⌝ }
+        requires { ⌜ Rated (verifyCost (now curve) n) self ⌝ }
+        ensures decided { λ r. ⌜ decisionOf r ≡ slotAt (verifyCost (now (curve .entry)) n) (sumsOf self) s ⌝ }
+        ensures rated { λ r. ⌜ StillRated (verifyCost (now (curve .entry)) n) r ⌝ }
+    {
+        let vn = verify_cost(curve, n, self.tokens + 1.0);
+        self.slot(s, vn)
+    }
+}
