@@ -1,0 +1,63 @@
+-- Each way out of what is refused and what is done, over plain variables. Assumes nothing.
+use mathlib.Core.Path.{_≡_}
+use mathlib.Core.Bool.{true, false}
+use mathlib.Core.List.{List}
+use Prim.Native.Nat.{ℕ, _+_, _-_, _≤_, _<_}
+use borrow.Author.Tests.{lt-ltb, le-ltb}
+use lib.ListN.{getD}
+use Rattle.ledger_rows.specs.declared.layout.Place.{Place}
+use Rattle.ledger_rows.specs.declared.layout.Past.{Past}
+use Rattle.ledger_rows.specs.Layout.{secondsMost, workersMost, stepsMost, secondAt}
+use Rattle.ledger_seconds.specs.Seconds.{secondPlace, stepAdded}
+use Rattle.ledger_workers.specs.Workers.{workerPlace, pastOf, workerPut}
+use Rattle.ledger_changes.specs.Changes.{ten, pushed}
+use Rattle.ledger_acts.specs.Acts.{stepRefusal, workerRefusal, plainDone, decidedDone, collectedDone}
+
+module _ (ws : List ℕ) (t : ℕ) where
+  module _ (p : Place) (is : p ≡ secondPlace ws t) where
+    pub step-fits : (n : ℕ) → p .known ≡ true → n ≡ getD ws (secondAt (p .row) + 3) 0 → n < stepsMost → 0 ≡ stepRefusal ws t
+    unfolding stepRefusal
+    step-fits n k e h = rw (← is, k, ← e, lt-ltb n stepsMost h)
+
+    pub step-busy : (n : ℕ) → p .known ≡ true → n ≡ getD ws (secondAt (p .row) + 3) 0 → stepsMost ≤ n → 19 ≡ stepRefusal ws t
+    unfolding stepRefusal
+    step-busy n k e h = rw (← is, k, ← e, le-ltb n stepsMost h)
+
+    pub step-new : p .known ≡ false → p .rows < secondsMost → 0 ≡ stepRefusal ws t
+    unfolding stepRefusal
+    step-new k h = rw (← is, k, lt-ltb (p .rows) secondsMost h)
+
+    pub step-full : p .known ≡ false → secondsMost ≤ p .rows → 18 ≡ stepRefusal ws t
+    unfolding stepRefusal
+    step-full k h = rw (← is, k, le-ltb (p .rows) secondsMost h)
+
+module _ (ws : List ℕ) (a b : ℕ) where
+  module _ (p : Place) (is : p ≡ workerPlace ws a b) where
+    pub worker-known : p .known ≡ true → 0 ≡ workerRefusal ws a b
+    unfolding workerRefusal
+    worker-known k = rw (← is, k)
+
+    pub worker-new : p .known ≡ false → p .rows < workersMost → 0 ≡ workerRefusal ws a b
+    unfolding workerRefusal
+    worker-new k h = rw (← is, k, lt-ltb (p .rows) workersMost h)
+
+    pub worker-full : p .known ≡ false → workersMost ≤ p .rows → 17 ≡ workerRefusal ws a b
+    unfolding workerRefusal
+    worker-full k h = rw (← is, k, le-ltb (p .rows) workersMost h)
+
+pub plain-done : (ws : List ℕ) (t drafts sequences : ℕ) (one last : List ℕ) → one ≡ stepAdded ws t drafts sequences → last ≡ pushed one (ten t drafts sequences 1 0 0 0 0 0 0)
+    → last ≡ plainDone ws t drafts sequences
+unfolding plainDone
+plain-done ws t drafts sequences one last e l = rw (l, e)
+
+pub collect-done : (ws : List ℕ) (a b width rounds stall : ℕ) (one last : List ℕ) → one ≡ workerPut ws a b width rounds 0 → last ≡ pushed one (ten 0 0 0 0 2 a b width rounds stall)
+    → last ≡ collectedDone ws a b (record { kind = 2; width = width; rounds = rounds; stall = stall })
+unfolding collectedDone
+collect-done ws a b width rounds stall one last e l = rw (l, e)
+
+pub decided-done : (ws : List ℕ) (t drafts sequences a b width rounds stall : ℕ) (p : Past) (one two last : List ℕ)
+    → p ≡ pastOf ws a b → one ≡ workerPut ws a b width rounds stall → two ≡ stepAdded one t drafts sequences
+    → last ≡ pushed two (ten t drafts sequences 1 (p .kind) a b (p .width) (p .rounds) (p .stall))
+    → last ≡ decidedDone ws t drafts sequences a b width rounds stall (pastOf ws a b)
+unfolding decidedDone
+decided-done ws t drafts sequences a b width rounds stall p one two last e f g l = rw (l, g, f, ← e)

@@ -1,0 +1,106 @@
+-- What the operations on the words come to once a place and the words there are known. Assumes nothing.
+use mathlib.Core.Path.{_≡_, refl}
+use mathlib.Core.Bool.{Bool, true, false, cond}
+use mathlib.Core.List.{List, [], _∷_}
+use Prim.Native.Nat.{ℕ, _+_, _-_, _^_, _≤_, _<_, min}
+use native.Mathlib.Nat.{min-eq-left}
+use borrow.Author.Tests.{lt-ltb, le-ltb}
+use lib.Dec.{ltb}
+use lib.ListN.{length, getD, set}
+use Rattle.ledger_rows.specs.Words.{stored, opened, closed}
+use Rattle.ledger_rows.specs.Layout.{room, secondsMost, workersMost, stepsMost, secondAt, workerAt}
+use Rattle.ledger_seconds.specs.Seconds.{secondPlace, secondRaised, secondInserted, stepAdded, secondLowered, stepRemoved}
+use Rattle.ledger_workers.specs.Workers.{workerPlace, pastAt, pastOf, workerStored, workerInserted, workerPut, workerTaken, workerDropped}
+use Rattle.ledger_changes.specs.Changes.{stepBack, recordBack, workerBack}
+use Rattle.ledger_acts.specs.Acts.{stepRefusal, workerRefusal}
+use Rattle.ledger.specs.Calls.{stepJudged, workerJudged}
+
+module _ (ws : List ℕ) (t drafts sequences b n : ℕ) where
+  module _ (is : secondPlace ws t ≡ record { row = b; rows = n; known = true }) (x y z : ℕ)
+      (r1 : getD ws (secondAt b + 1) 0 ≡ x) (r2 : getD ws (secondAt b + 2) 0 ≡ y) (r3 : getD ws (secondAt b + 3) 0 ≡ z) where
+    pub added-there : x + drafts ≤ 2 ^ 64 - 1 → y + sequences ≤ 2 ^ 64 - 1 → z + 1 ≤ 2 ^ 64 - 1
+        → stepAdded ws t drafts sequences ≡ stored (secondAt b) (t ∷ (x + drafts) ∷ (y + sequences) ∷ (z + 1) ∷ []) ws
+    unfolding stepAdded secondRaised
+    added-there h k l =
+        let d : min (x + drafts) (2 ^ 64 - 1) ≡ x + drafts = min-eq-left h in
+        let s : min (y + sequences) (2 ^ 64 - 1) ≡ y + sequences = min-eq-left k in
+        let c : min (z + 1) (2 ^ 64 - 1) ≡ z + 1 = min-eq-left l in
+        rw (is, r1, r2, r3, d, s, c)
+
+    pub removed-there : 1 < z → stepRemoved ws t drafts sequences ≡ stored (secondAt b) (t ∷ (x - drafts) ∷ (y - sequences) ∷ (z - 1) ∷ []) ws
+    unfolding stepRemoved secondLowered
+    removed-there h = rw (is, r3, lt-ltb 1 z h, r1, r2)
+
+  pub added-here : secondPlace ws t ≡ record { row = b; rows = n; known = false } → n < secondsMost
+      → stepAdded ws t drafts sequences ≡ set (opened (secondAt b) (secondAt n) (t ∷ drafts ∷ sequences ∷ 1 ∷ []) ws) 0 (n + 1)
+  unfolding stepAdded secondInserted
+  added-here is h = rw (is, lt-ltb n secondsMost h)
+
+  pub removed-last : secondPlace ws t ≡ record { row = b; rows = n; known = true } → (z : ℕ) → getD ws (secondAt b + 3) 0 ≡ z → z ≤ 1
+      → stepRemoved ws t drafts sequences ≡ set (closed (secondAt b) (secondAt (n - 1)) (0 ∷ 0 ∷ 0 ∷ 0 ∷ []) ws) 0 (n - 1)
+  unfolding stepRemoved secondLowered
+  removed-last is z r3 h = rw (is, r3, le-ltb 1 z h)
+
+pub judged-step : (ws : List ℕ) (t : ℕ) → room ≤ length ws → stepJudged ws t ≡ stepRefusal ws t
+unfolding stepJudged
+judged-step ws t h = rw (le-ltb (length ws) room h)
+
+pub judged-worker : (ws : List ℕ) (a b : ℕ) → room ≤ length ws → workerJudged ws a b ≡ workerRefusal ws a b
+unfolding workerJudged
+judged-worker ws a b h = rw (le-ltb (length ws) room h)
+
+pub refused-step : (ws : List ℕ) (t b n : ℕ) (known : Bool) (z : ℕ) → secondPlace ws t ≡ record { row = b; rows = n; known = known } → (known ≡ true → getD ws (secondAt b + 3) 0 ≡ z)
+    → stepRefusal ws t ≡ cond known (cond (ltb z stepsMost) 0 19) (cond (ltb n secondsMost) 0 18)
+unfolding stepRefusal
+refused-step ws t b n true z is r = rw (is, r refl)
+refused-step ws t b n false z is r = rw is
+
+module _ (ws : List ℕ) (a c b n : ℕ) where
+  pub put-there : (width rounds stall : ℕ) → workerPlace ws a c ≡ record { row = b; rows = n; known = true } → workerPut ws a c width rounds stall ≡ stored (workerAt b) (a ∷ c ∷ width ∷ rounds ∷ stall ∷ []) ws
+  unfolding workerPut workerStored
+  put-there width rounds stall is = rw is
+
+  pub put-here : (width rounds stall : ℕ) → workerPlace ws a c ≡ record { row = b; rows = n; known = false } → n < workersMost
+      → workerPut ws a c width rounds stall ≡ set (opened (workerAt b) (workerAt n) (a ∷ c ∷ width ∷ rounds ∷ stall ∷ []) ws) 1 (n + 1)
+  unfolding workerPut workerInserted
+  put-here width rounds stall is h = rw (is, lt-ltb n workersMost h)
+
+  pub dropped-there : workerPlace ws a c ≡ record { row = b; rows = n; known = true } → workerDropped ws a c ≡ set (closed (workerAt b) (workerAt (n - 1)) (0 ∷ 0 ∷ 0 ∷ 0 ∷ 0 ∷ []) ws) 1 (n - 1)
+  unfolding workerDropped workerTaken
+  dropped-there is = rw is
+
+  pub past-there : (x y z : ℕ) → workerPlace ws a c ≡ record { row = b; rows = n; known = true }
+      → getD ws (workerAt b + 2) 0 ≡ x → getD ws (workerAt b + 3) 0 ≡ y → getD ws (workerAt b + 4) 0 ≡ z → pastOf ws a c ≡ record { kind = 2; width = x; rounds = y; stall = z }
+  unfolding pastOf pastAt
+  past-there x y z is r2 r3 r4 = rw (is, r2, r3, r4)
+
+  pub past-nowhere : workerPlace ws a c ≡ record { row = b; rows = n; known = false } → pastOf ws a c ≡ record { kind = 1; width = 0; rounds = 0; stall = 0 }
+  unfolding pastOf
+  past-nowhere is = rw is
+
+  pub refused-worker : (known : Bool) → workerPlace ws a c ≡ record { row = b; rows = n; known = known } → workerRefusal ws a c ≡ cond known 0 (cond (ltb n workersMost) 0 17)
+  unfolding workerRefusal
+  refused-worker known is = rw is
+
+-- ---- the newest change taken back
+
+module _ (ws : List ℕ) where
+  pub step-plan : (x y z : ℕ) → getD ws 6 0 ≡ 1 → getD ws 3 0 ≡ x → getD ws 4 0 ≡ y → getD ws 5 0 ≡ z → stepBack ws ≡ stepRemoved ws x y z
+  unfolding stepBack
+  step-plan x y z e f g h = rw (e, f, g, h)
+
+  pub step-none : getD ws 6 0 ≡ 0 → stepBack ws ≡ ws
+  unfolding stepBack
+  step-none e = rw e
+
+  pub worker-none : getD ws 7 0 ≡ 0 → workerBack ws ≡ ws
+  unfolding workerBack recordBack
+  worker-none e = rw e
+
+  pub worker-new : (a b : ℕ) → getD ws 7 0 ≡ 1 → getD ws 8 0 ≡ a → getD ws 9 0 ≡ b → workerBack ws ≡ workerDropped ws a b
+  unfolding workerBack
+  worker-new a b e f g = rw (e, f, g)
+
+  pub worker-old : (a b x y z : ℕ) → getD ws 7 0 ≡ 2 → getD ws 8 0 ≡ a → getD ws 9 0 ≡ b → getD ws 10 0 ≡ x → getD ws 11 0 ≡ y → getD ws 12 0 ≡ z → workerBack ws ≡ workerPut ws a b x y z
+  unfolding workerBack recordBack
+  worker-old a b x y z e f g h i j = rw (e, f, g, h, i, j)

@@ -1,0 +1,3 @@
+pub mod Model
+pub mod Encode
+pub mod Run

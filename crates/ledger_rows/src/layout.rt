@@ -1,0 +1,44 @@
+// How the words of the storage lie: three counts (seconds, workers, changes), the newest changes, the workers, the seconds.
+
+// How many there are at most: seconds held, workers held, changes that can be withdrawn, steps in a second.
+pub const SECONDS_MOST: usize = 4096;
+
+pub const WORKERS_MOST: usize = 256;
+
+pub const CHANGES_MOST: usize = 64;
+
+pub const STEPS_MOST: u64 = 1_000_000;
+
+// The words of a second: itself and its sums. Those of a worker: two numbers, width, rounds, the stall's bits. Those of a change.
+pub const SECOND: usize = 4;
+
+pub const WORKER: usize = 5;
+
+pub const CHANGE: usize = 10;
+
+// Where the newest changes start and where the oldest of them stands; where the workers and the seconds start.
+pub const CHANGES: usize = 3;
+
+pub const OLDEST: usize = CHANGES + CHANGE * (CHANGES_MOST - 1);
+
+pub const WORKERS: usize = CHANGES + CHANGE * CHANGES_MOST;
+
+pub const SECONDS: usize = WORKERS + WORKER * WORKERS_MOST;
+
+// The words that a planner takes.
+pub const ROOM: usize = SECONDS + SECOND * SECONDS_MOST;
+
+// The row of a key among the rows held, or before which it belongs, and whether it is held.
+pub struct Place {
+    pub row: usize,
+    pub rows: usize,
+    pub known: bool,
+}
+
+// What a worker's record was before a change: kind 2 where it was held, 1 where there was none, 0 where the change is of no worker.
+pub struct Past {
+    pub kind: u64,
+    pub width: u64,
+    pub rounds: u64,
+    pub stall: u64,
+}

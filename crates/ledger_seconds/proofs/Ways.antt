@@ -1,0 +1,109 @@
+-- Each way out of a function, over plain variables: what the callees gave and the tests taken, and what is returned. Assumes nothing.
+use mathlib.Core.Path.{_≡_, _∙_}
+use mathlib.Core.Bool.{Bool, true, false, cond}
+use mathlib.Core.List.{List, [], _∷_}
+use Prim.Native.Nat.{ℕ, zero, suc, _+_, _-_, _≤_, _<_}
+use native.Mathlib.Nat.{not-suc-le-zero}
+use native.Mathlib.Numerals.{sub-one}
+use borrow.Author.Tests.{ltb-true, lt-ltb, le-ltb}
+use lib.Dec.{ltb}
+use lib.ListN.{getD, set}
+use Rattle.ledger_rows.specs.Words.{stored, opened, closed, searched, lastFirst}
+use Rattle.ledger_rows.proofs.Tests.{both}
+use Rattle.ledger_rows.proofs.Search.{last-within}
+use Rattle.ledger_rows.specs.declared.layout.Place.{Place}
+use Rattle.ledger_rows.specs.Layout.{secondsMost, secondAt, secondsHeld, plus}
+use Rattle.ledger_seconds.specs.Seconds.{earlierSecond, thatSecond, secondRow, secondPlace, secondRaised, secondInserted, stepAdded, secondLowered, stepRemoved}
+
+-- ---- the last row looked at first
+
+module _ (early same : ℕ → Bool) (n : ℕ) where
+  pub last-none : n ≡ 0 → 0 ≡ lastFirst early same n
+  unfolding lastFirst
+  last-none e = rw e
+
+  pub last-early : 0 < n → early (n - 1) ≡ true → n ≡ lastFirst early same n
+  unfolding lastFirst
+  last-early h e = on n h e
+    where
+      on : (n : ℕ) → 0 < n → early (n - 1) ≡ true → n ≡ lastFirst early same n
+      on zero h e = absurd (not-suc-le-zero h)
+      on (suc m) h e = let f : early m ≡ true = rw sub-one at e in rw f
+
+  pub last-same : 0 < n → early (n - 1) ≡ false → same (n - 1) ≡ true → n - 1 ≡ lastFirst early same n
+  unfolding lastFirst
+  last-same h e s = on n h e s
+    where
+      on : (n : ℕ) → 0 < n → early (n - 1) ≡ false → same (n - 1) ≡ true → n - 1 ≡ lastFirst early same n
+      on zero h e s = absurd (not-suc-le-zero h)
+      on (suc m) h e s = let f : early m ≡ false = rw sub-one at e in let g : same m ≡ true = rw sub-one at s in rw (f, g, sub-one)
+
+  pub last-else : (r : ℕ) → 0 < n → early (n - 1) ≡ false → same (n - 1) ≡ false → r ≡ searched early (n - 1) → r ≡ lastFirst early same n
+  unfolding lastFirst
+  last-else r h e s q = q ∙ on n h e s
+    where
+      on : (n : ℕ) → 0 < n → early (n - 1) ≡ false → same (n - 1) ≡ false → searched early (n - 1) ≡ lastFirst early same n
+      on zero h e s = absurd (not-suc-le-zero h)
+      on (suc m) h e s = let f : early m ≡ false = rw sub-one at e in let g : same m ≡ false = rw sub-one at s in rw (f, g, sub-one)
+
+-- ---- the seconds
+
+module _ (ws : List ℕ) (t : ℕ) where
+  -- a place that is known is a row
+  pub second-in : (p : Place) → p ≡ secondPlace ws t → p .known ≡ true → p .row < p .rows
+  unfolding secondPlace
+  second-in p e k = rw e (ltb-true _ _ (both (ltb (secondRow ws t) (secondsHeld ws)) _ (rw e at k)))
+
+  pub second-rows : (p : Place) → p ≡ secondPlace ws t → p .rows ≡ secondsHeld ws
+  unfolding secondPlace
+  second-rows p e = rw e
+
+  pub second-within : (p : Place) → p ≡ secondPlace ws t → p .row ≤ p .rows
+  unfolding secondPlace secondRow
+  second-within p e = rw e (last-within (earlierSecond ws t) (thatSecond ws t) (secondsHeld ws))
+
+  pub second-place : (row rows : ℕ) (known : Bool) → rows ≡ secondsHeld ws → row ≡ lastFirst (earlierSecond ws t) (thatSecond ws t) rows → known ≡ cond (ltb row rows) (thatSecond ws t row) false
+      → record { row = row; rows = rows; known = known } ≡ secondPlace ws t
+  unfolding secondPlace secondRow
+  second-place row rows known e f g = rw (g, f, e)
+
+  module _ (drafts sequences : ℕ) (p : Place) (is : p ≡ secondPlace ws t) (last : List ℕ) where
+    pub added-known : p .known ≡ true → last ≡ secondRaised ws (p .row) t drafts sequences → last ≡ stepAdded ws t drafts sequences
+    unfolding stepAdded
+    added-known k e = rw (← is, k) e
+
+    pub added-new : p .known ≡ false → last ≡ secondInserted ws (p .row) (p .rows) t drafts sequences → last ≡ stepAdded ws t drafts sequences
+    unfolding stepAdded
+    added-new k e = rw (← is, k) e
+
+    pub removed-known : p .known ≡ true → last ≡ secondLowered ws (p .row) (p .rows) t drafts sequences → last ≡ stepRemoved ws t drafts sequences
+    unfolding stepRemoved
+    removed-known k e = rw (← is, k) e
+
+  module _ (drafts sequences : ℕ) (p : Place) (is : p ≡ secondPlace ws t) where
+    pub removed-unknown : p .known ≡ false → ws ≡ stepRemoved ws t drafts sequences
+    unfolding stepRemoved
+    removed-unknown k = rw (← is, k)
+
+  module _ (i drafts sequences : ℕ) (last : List ℕ) where
+    pub raised-done : (d s n : ℕ) → d ≡ plus (getD ws (secondAt i + 1) 0) drafts → s ≡ plus (getD ws (secondAt i + 2) 0) sequences → n ≡ plus (getD ws (secondAt i + 3) 0) 1
+        → last ≡ stored (secondAt i) (t ∷ d ∷ s ∷ n ∷ []) ws → last ≡ secondRaised ws i t drafts sequences
+    unfolding secondRaised
+    raised-done d s n e f g l = rw (l, e, f, g)
+
+    pub inserted-done : (n : ℕ) → n < secondsMost → last ≡ opened (secondAt i) (secondAt n) (t ∷ drafts ∷ sequences ∷ 1 ∷ []) ws → set last 0 (n + 1) ≡ secondInserted ws i n t drafts sequences
+    unfolding secondInserted
+    inserted-done n few l = rw (lt-ltb n secondsMost few, l)
+
+    pub lowered-some : (n d s : ℕ) → 1 < getD ws (secondAt i + 3) 0 → d ≡ getD ws (secondAt i + 1) 0 - drafts → s ≡ getD ws (secondAt i + 2) 0 - sequences
+        → last ≡ stored (secondAt i) (t ∷ d ∷ s ∷ (getD ws (secondAt i + 3) 0 - 1) ∷ []) ws → last ≡ secondLowered ws i n t drafts sequences
+    unfolding secondLowered
+    lowered-some n d s more e f l = rw (lt-ltb _ _ more, l, e, f)
+
+    pub lowered-last : (n : ℕ) → getD ws (secondAt i + 3) 0 ≤ 1 → last ≡ closed (secondAt i) (secondAt (n - 1)) (0 ∷ 0 ∷ 0 ∷ 0 ∷ []) ws → set last 0 (n - 1) ≡ secondLowered ws i n t drafts sequences
+    unfolding secondLowered
+    lowered-last n one l = rw (le-ltb _ _ one, l)
+
+  pub inserted-full : (i n drafts sequences : ℕ) → secondsMost ≤ n → ws ≡ secondInserted ws i n t drafts sequences
+  unfolding secondInserted
+  inserted-full i n drafts sequences many = rw (le-ltb n secondsMost many)

@@ -1,0 +1,188 @@
+// The seconds held, ascending, each with its sums.
+use ledger_rows::inner;
+use ledger_rows::layout::Place;
+use ledger_rows::layout::SECOND;
+use ledger_rows::layout::SECONDS;
+use ledger_rows::layout::SECONDS_MOST;
+ghost use mathlib.Core.Path.{_≡_};
+ghost use mathlib.Core.Bool.{cond, false};
+ghost use Prim.Native.Nat.{_+_, _-_, _≤_, _<_};
+ghost use lib.Dec.{ltb};
+ghost use lib.ListN.{length, getD};
+ghost use Rattle.ledger_rows.specs.Words.{searched, lastFirst};
+ghost use Rattle.ledger_rows.specs.Layout.{room, secondWide, secondsMost, secondsHeld, secondAt, plus};
+ghost use Rattle.ledger_seconds.specs.Seconds.{earlierSecond, thatSecond, secondPlace, secondRaised, secondInserted, stepAdded, secondLowered, stepRemoved};
+
+const LARGEST: u64 = 0xffff_ffff_ffff_ffff;
+
+// The number of seconds held: at most SECONDS_MOST, whatever the word says.
+pub fn held(words: &[u64]) -> usize
+    requires { ⌜ room ≤ length (now words) ⌝ }
+    ensures { λ r. ⌜ r ≡ secondsHeld (now (words .entry)) ⌝ }
+{
+    let n = words[0] as usize;
+    if n < SECONDS_MOST { n } else { SECONDS_MOST }
+}
+
+// How many of the first `rows` seconds are earlier than `second`: a search by halves.
+fn count_earlier(words: &[u64], rows: usize, second: u64) -> usize
+    requires { ⌜ (rows ≤ secondsMost) × (room ≤ length (now words)) ⌝ }
+    ensures { λ r. ⌜ (r ≡ searched (earlierSecond (now (words .entry)) second) rows) × (r ≤ rows) ⌝ }
+{
+    let mut low = 0;
+    let mut width = rows;
+    while 0 < width {
+        let half = width / 2;
+        let middle = SECONDS + SECOND * (low + half);
+        if words[middle] < second {
+            low = low + half + 1;
+            width = width - half - 1;
+        } else {
+            width = half;
+        }
+    }
+    low
+}
+
+// The row of `second` among the first `rows`, or before which it belongs. The newest second is looked at first.
+fn find(words: &[u64], rows: usize, second: u64) -> usize
+    requires { ⌜ (rows ≤ secondsMost) × (room ≤ length (now words)) ⌝ }
+    ensures { λ r. ⌜ (r ≡ lastFirst (earlierSecond (now (words .entry)) second) (thatSecond (now (words .entry)) second) rows) × (r ≤ rows) ⌝ }
+{
+    if rows == 0 {
+        return 0;
+    }
+    let last = rows - 1;
+    let at = SECONDS + SECOND * last;
+    let newest = words[at];
+    if newest < second {
+        return rows;
+    }
+    if newest == second {
+        return last;
+    }
+    count_earlier(words, last, second)
+}
+
+// Whether row `row` is one of the first `rows` and has that second.
+fn is_that(words: &[u64], row: usize, rows: usize, second: u64) -> bool
+    requires { ⌜ (rows ≤ secondsMost) × (room ≤ length (now words)) ⌝ }
+    ensures { λ r. ⌜ r ≡ cond (ltb row rows) (thatSecond (now (words .entry)) second row) false ⌝ }
+{
+    if row < rows {
+        let at = SECONDS + SECOND * row;
+        words[at] == second
+    } else {
+        false
+    }
+}
+
+// Where a second is held or belongs.
+pub fn place(words: &[u64], second: u64) -> Place
+    requires { ⌜ room ≤ length (now words) ⌝ }
+    ensures { λ r. ⌜ r ≡ secondPlace (now (words .entry)) second ⌝ }
+{
+    let rows = held(words);
+    let row = find(words, rows, second);
+    let known = is_that(words, row, rows, second);
+    Place { row, rows, known }
+}
+
+// The steps of row `row`.
+pub fn steps(words: &[u64], row: usize) -> u64
+    requires { ⌜ (row < secondsMost) × (room ≤ length (now words)) ⌝ }
+    ensures { λ r. ⌜ r ≡ getD (now (words .entry)) (secondAt row + 3) 0 ⌝ }
+{
+    let at = SECONDS + SECOND * row;
+    words[at + 3]
+}
+
+// A sum that stops at the largest word.
+fn sum_of(x: u64, y: u64) -> u64
+    ensures { λ r. ⌜ r ≡ plus x y ⌝ }
+{
+    let left = LARGEST - x;
+    if y <= left { x + y } else { LARGEST }
+}
+
+// The rest of a number after another is taken away; 0 where that is more.
+fn rest_of(x: u64, y: u64) -> u64
+    ensures { λ r. ⌜ r ≡ x - y ⌝ }
+{
+    if y <= x { x - y } else { 0 }
+}
+
+// Row `row`, of `second`, with one step more.
+fn raise(words: &mut [u64], row: usize, second: u64, drafts: u64, sequences: u64)
+    requires { ⌜ secondAt row + secondWide ≤ length (now words) ⌝ }
+    ensures { λ _. ⌜ now (words .exit) ≡ secondRaised (now (words .entry)) row second drafts sequences ⌝ }
+{
+    let at = SECONDS + SECOND * row;
+    let more_drafts = sum_of(words[at + 1], drafts);
+    let more_sequences = sum_of(words[at + 2], sequences);
+    let more_steps = sum_of(words[at + 3], 1);
+    let more = [second, more_drafts, more_sequences, more_steps];
+    inner::put(words, at, &more);
+}
+
+// A new row before row `row` of `rows`, unless as many are held as there may be.
+fn insert(words: &mut [u64], row: usize, rows: usize, second: u64, drafts: u64, sequences: u64)
+    requires { ⌜ (row ≤ rows) × (room ≤ length (now words)) ⌝ }
+    ensures { λ _. ⌜ now (words .exit) ≡ secondInserted (now (words .entry)) row rows second drafts sequences ⌝ }
+{
+    if rows < SECONDS_MOST {
+        let from = SECONDS + SECOND * row;
+        let end = SECONDS + SECOND * rows;
+        let new = [second, drafts, sequences, 1];
+        inner::put_in(words, from, end, &new);
+        words[0] = (rows + 1) as u64;
+    }
+}
+
+// The sums of `second` with one step more; a second that is not held is put in at its place.
+pub fn add_step(words: &mut [u64], second: u64, drafts: u64, sequences: u64)
+    requires { ⌜ room ≤ length (now words) ⌝ }
+    ensures { λ _. ⌜ now (words .exit) ≡ stepAdded (now (words .entry)) second drafts sequences ⌝ }
+{
+    let found = place(words, second);
+    let row = found.row;
+    let rows = found.rows;
+    if found.known {
+        raise(words, row, second, drafts, sequences);
+    } else {
+        insert(words, row, rows, second, drafts, sequences);
+    }
+}
+
+// Row `row` of `rows`, of `second`, with one step less, and gone with its last.
+fn lower(words: &mut [u64], row: usize, rows: usize, second: u64, drafts: u64, sequences: u64)
+    requires { ⌜ (row < rows) × (rows ≤ secondsMost) × (room ≤ length (now words)) ⌝ }
+    ensures { λ _. ⌜ now (words .exit) ≡ secondLowered (now (words .entry)) row rows second drafts sequences ⌝ }
+{
+    let at = SECONDS + SECOND * row;
+    let steps = words[at + 3];
+    if 1 < steps {
+        let less_drafts = rest_of(words[at + 1], drafts);
+        let less_sequences = rest_of(words[at + 2], sequences);
+        let less = [second, less_drafts, less_sequences, steps - 1];
+        inner::put(words, at, &less);
+    } else {
+        let end = SECONDS + SECOND * (rows - 1);
+        let free = [0u64; SECOND];
+        inner::take_out(words, at, end, &free);
+        words[0] = (rows - 1) as u64;
+    }
+}
+
+// What a step added is taken away again from its second, if that is held.
+pub fn remove_step(words: &mut [u64], second: u64, drafts: u64, sequences: u64)
+    requires { ⌜ room ≤ length (now words) ⌝ }
+    ensures { λ _. ⌜ now (words .exit) ≡ stepRemoved (now (words .entry)) second drafts sequences ⌝ }
+{
+    let found = place(words, second);
+    let row = found.row;
+    let rows = found.rows;
+    if found.known {
+        lower(words, row, rows, second, drafts, sequences);
+    }
+}
