@@ -7,6 +7,7 @@ pub mod commands;
 pub mod decimal_texts;
 pub mod dice;
 pub mod end_times;
+pub mod field_texts;
 pub mod figures;
 pub mod lines;
 pub mod random;

@@ -105,6 +105,7 @@ pub fn choose(
     (width, held(&states[&worker]))
 }
 
+
 impl SpecPlanner {
     /// A planner over a bank and a table that are held already: no path is read.
     pub fn over(
@@ -140,6 +141,17 @@ impl SpecPlanner {
 
     pub fn set_record(&mut self, worker: WorkerKey, record: Record) {
         self.agg_switch.insert(worker, state_of(record));
+    }
+
+    /// One constrained decision of a worker: the width.
+    pub fn choose(
+        &mut self,
+        worker: WorkerKey,
+        target: u32,
+        curve: &[f64],
+        switch: &SwitchConstraints,
+    ) -> u32 {
+        constrained_aggregate_choice(&mut self.agg_switch, worker, target, curve, switch)
     }
 
     /// Counts one step in the second that its end time falls in.

@@ -6,8 +6,15 @@ extern crate std_lent as std;
 
 include!(concat!(env!("OUT_DIR"), "/modules.rs"));
 
+pub mod agreement;
+pub mod drafter;
+pub mod drafter_values;
 pub mod lent_model;
+pub mod model;
+pub mod plans;
+pub mod range;
 pub mod refusals;
+pub mod unchanged;
 
 pub mod request {
     /// The planner only counts requests: it reads nothing of one.

@@ -26,7 +26,7 @@ pub mod collections {
 
         pub fn pop(&mut self) -> Option<T> {
             let element = self.0.pop();
-            if element.is_some() {
+            if cfg!(not(feature = "uncounted")) && element.is_some() {
                 POPS.set(POPS.get() + 1);
             }
             element

@@ -1,7 +1,8 @@
 //! Texts of banks: a table of fields, faults in it, and lines made of it.
 use crate::lent::{Room, LARGEST};
 use numbers::dice::Dice;
-use numbers::spellings::{damaged, noise};
+use numbers::field_texts::{field_of, whole_or_damaged, without_end};
+use numbers::spellings::noise;
 use numbers::{decimal_texts, whole_texts};
 
 /// Names of columns that count for the depth, and names that do not.
@@ -139,15 +140,6 @@ impl Table {
     }
 }
 
-/// Takes the last line's end away.
-fn without_end(text: &mut Vec<u8>) {
-    for end in [b'\n', b'\r'] {
-        if text.last() == Some(&end) {
-            text.pop();
-        }
-    }
-}
-
 /// The names of the columns: the signals' ones last, or anywhere behind `commits`.
 fn header(others: usize, depth: usize, dice: &mut Dice) -> Vec<Field> {
     let usual = dice.once_in(2);
@@ -216,17 +208,6 @@ fn decimal(short: bool, dice: &mut Dice) -> Field {
     spelled.into()
 }
 
-/// A text that can stand in a field, mostly a short one: it holds no comma and no LF.
-fn field_of(text: impl Fn(&mut Dice) -> Field, dice: &mut Dice) -> Field {
-    loop {
-        let text = text(dice);
-        let is_short = text.len() <= 40 || dice.once_in(8);
-        if is_short && !text.contains(&b',') && !text.contains(&b'\n') {
-            return text;
-        }
-    }
-}
-
 /// A text and the room that is lent for it: without a fault, with one or two, or damaged in a byte;
 /// at times no text at all.
 pub fn random(table: impl Fn(&mut Dice) -> Table, dice: &mut Dice) -> (Vec<u8>, Room) {
@@ -235,15 +216,10 @@ pub fn random(table: impl Fn(&mut Dice) -> Table, dice: &mut Dice) -> (Vec<u8>, 
     for _ in 0..dice.pick(&[0, 0, 0, 1, 1, 2]) {
         table.spoil(dice);
     }
-    if dice.once_in(2000) {
-        return (Vec::new(), exactly);
+    let text = whole_or_damaged(|dice| table.text(dice), dice);
+    if text.is_empty() {
+        return (text, exactly);
     }
-    let text = table.text(dice);
-    let text = if dice.once_in(6) {
-        damaged(&text, dice)
-    } else {
-        text
-    };
     (text, room(exactly, dice))
 }
 

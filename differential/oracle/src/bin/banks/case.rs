@@ -2,11 +2,11 @@
 //! Rust's. Where the two have to agree and do not, making the case panics.
 use crate::bank::{self, Bank};
 use crate::lent::{Buffers, Room};
-use crate::model::{Model, Sample};
 use crate::unchanged;
 use numbers::case::{hex, Column, NO_ANSWER};
-use numbers::refusal::{Reason, Refusal};
-use oracle::refusals;
+use numbers::refusal::Refusal;
+use oracle::agreement::assert_agreement;
+use oracle::model::{Model, Sample};
 
 #[derive(Clone, Copy, Debug, PartialEq, Eq, Hash)]
 pub enum Kind {
@@ -35,7 +35,7 @@ impl Case {
     pub fn bank(text: &[u8], room: Room) -> Case {
         let ours = bank::read(text, room);
         let rust = unchanged::bank(text);
-        assert_agreement(text, &ours, &rust);
+        assert_agreement(text, &ours, &rust, |bank, same| bank == same);
         let mut buffers = Buffers::lent(room);
         if let Ok(bank) = &ours {
             buffers.hold(bank);
@@ -93,22 +93,6 @@ impl Case {
     }
 }
 
-/// What both read is equal to the last bit. What the rules refuse and the Rust reads has a listed
-/// reason. What has none the Rust refuses too, with the same number and row.
-fn assert_agreement(text: &[u8], ours: &Result<Bank, Refusal>, rust: &Result<Bank, String>) {
-    let agree = match (ours, rust) {
-        (Ok(bank), Ok(same)) => bank == same,
-        (Ok(_), Err(_)) => false,
-        (Err(refusal), Ok(_)) => Reason::of(refusal).is_some(),
-        (Err(refusal), Err(error)) => {
-            let number_and_row = (u32::from(refusal.number), refusal.row as u32);
-            Reason::of(refusal).is_some() || refusals::of_text(error) == number_and_row
-        }
-    };
-    let text = text.escape_ascii();
-    assert!(agree, "bank {text}: {ours:x?} {rust:x?}");
-}
-
 /// Depth and rounds.
 fn size(bank: &Bank) -> Column {
     hex(u64::from(bank.depth) << 32 | bank.commits.len() as u64)
@@ -150,7 +134,7 @@ fn column(text: &str) -> Column {
 #[cfg(test)]
 mod tests {
     use super::*;
-    use crate::model::Kind::{Constant, PerPosition, Trace};
+    use oracle::model::Kind::{Constant, PerPosition, Trace};
 
     #[test]
     fn columns_of_a_bank() {

@@ -92,7 +92,7 @@ fn number(rest: &mut &[u8], digits: usize) -> Option<usize> {
 #[cfg(test)]
 mod tests {
     use super::*;
-    use crate::model::{Kind::Trace, Model};
+    use oracle::model::{Kind::Trace, Model};
 
     fn bank(text: &[u8]) -> Case {
         Case::bank(text, Room::exactly(1, 1))

@@ -6,7 +6,6 @@ mod case;
 mod case_line;
 mod figures;
 mod lent;
-mod model;
 mod models;
 mod random;
 mod sample;

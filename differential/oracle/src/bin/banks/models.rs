@@ -1,6 +1,6 @@
 //! Acceptance models with draws: special values at every place, and random ones.
-use crate::model::{Kind, Model, KINDS};
 use numbers::dice::Dice;
+use oracle::model::{Kind, Model, KINDS};
 
 const ONE: u64 = 0x3ff0_0000_0000_0000;
 pub const HALF: u64 = 0x3fe0_0000_0000_0000;

@@ -1,7 +1,8 @@
 //! What the unchanged Rust answers.
 use crate::bank::Bank;
-use crate::model::{Kind, Model, Sample};
-use oracle::config::{AcceptanceModel, TraceBank};
+use oracle::config::TraceBank;
+use oracle::model::{Model, Sample};
+use oracle::unchanged::{acceptance, floats};
 use rand::rngs::StdRng;
 use rand::SeedableRng;
 
@@ -45,22 +46,4 @@ pub fn sample(model: &Model) -> Sample {
 /// The bits of the value of a position.
 pub fn value(model: &Model, position: usize) -> u64 {
     acceptance(model).a_d(position).to_bits()
-}
-
-fn acceptance(model: &Model) -> AcceptanceModel {
-    match model.kind {
-        Kind::Constant => AcceptanceModel::Constant {
-            alpha: f64::from_bits(model.alpha),
-        },
-        Kind::PerPosition => AcceptanceModel::PerPosition {
-            a: floats(&model.positions),
-        },
-        Kind::Trace => AcceptanceModel::TraceRounds {
-            path: String::new(),
-        },
-    }
-}
-
-fn floats(bits: &[u64]) -> Vec<f64> {
-    bits.iter().map(|&bits| f64::from_bits(bits)).collect()
 }

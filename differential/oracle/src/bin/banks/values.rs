@@ -1,7 +1,7 @@
 //! Acceptance models, in range or not, each with a position whose value is asked for.
-use crate::model::{Kind, Model, KINDS};
 use crate::models::{chance, no_chance, CHANCES, HALF, NO_CHANCES};
 use numbers::dice::Dice;
+use oracle::model::{Kind, Model, KINDS};
 
 /// The most positions of a random model.
 const MOST: usize = 70;

@@ -1,9 +1,9 @@
 //! Cases of switching: walks, decisions, and stalls that are collected.
-use crate::drafters::SPECIALS;
 use crate::switching::{decided, first, walked, Record, Switch};
 use crate::unchanged;
 use numbers::dice::Dice;
 use numbers::word_case::{listed, WordCase};
+use oracle::drafter_values::SPECIALS;
 
 const INFINITY: u64 = 0x7ff0_0000_0000_0000;
 const HOUR: u64 = 0x414b_7740_0000_0000; // 3,600,000

@@ -1,44 +1,10 @@
 //! Cases of drafter costs: the kinds, special values at every place, and random ones.
-use crate::drafter::{Drafter, Lent, Rates, MOST_SEQUENCES};
 use crate::unchanged;
 use numbers::dice::Dice;
 use numbers::word_case::{listed, WordCase};
-
-const ONE: u64 = 0x3ff0_0000_0000_0000;
-const HALF: u64 = 0x3fe0_0000_0000_0000;
-const MILLION: u64 = 0x412e_8480_0000_0000;
-const BILLION: u64 = 0x41cd_cd65_0000_0000;
-const MOST: u64 = 0x43ab_c16d_674e_c800; // 1e18
-
-/// Floats that are in some range and not in others.
-pub const SPECIALS: &[u64] = &[
-    0,
-    1,
-    0x0010_0000_0000_0000, // the smallest normal
-    HALF,
-    ONE - 1,
-    ONE,
-    ONE + 1,
-    MILLION,
-    MILLION + 1,
-    BILLION,
-    BILLION + 1,
-    MOST,
-    MOST + 1,
-    0x7fef_ffff_ffff_ffff, // the largest finite number
-    0x7ff0_0000_0000_0000, // infinity
-    0x7ff0_0000_0000_0001, // a signalling NaN
-    0x7ff8_0000_0000_0000, // a quiet NaN
-    0x8000_0000_0000_0000, // minus zero
-    0x8000_0000_0000_0001, // the largest below zero
-    0xbff0_0000_0000_0000, // minus one
-    BILLION | 1 << 63,
-    (BILLION + 1) | 1 << 63,
-    0xfff0_0000_0000_0000, // minus infinity
-    0xffff_ffff_ffff_ffff, // a NaN with its sign set
-];
-
-const COUNTS: &[u32] = &[0, 1, 2, 8, 64, 999_999, 1_000_000, 1_000_001, u32::MAX];
+use oracle::drafter::{Drafter, Lent, Rates, MOST_SEQUENCES};
+use oracle::drafter_values::{drafter, float_up_to, rate, with_constant_loaded};
+use oracle::drafter_values::{COUNTS, ONE, SPECIALS};
 
 /// What is asked of a drafter.
 #[derive(Clone, Debug)]
@@ -281,14 +247,11 @@ fn with_count(mut question: Question, place: usize, count: u32) -> Question {
             1 => *experts_per_tok = count,
             _ => *shared_experts = count,
         }
-        if *experts_per_tok == 0 {
-            let first = question.loaded.first().copied().unwrap_or(0);
-            question.loaded.fill(first);
-        }
     }
     if let Drafter::BlockParallel { block, .. } = &mut question.drafter {
         *block = count;
     }
+    with_constant_loaded(question.drafter, &mut question.loaded);
     question
 }
 
@@ -325,42 +288,8 @@ pub fn random(dice: &mut Dice) -> Question {
         let place = dice.between(0, 2);
         question = with_count(question, place, dice.pick(COUNTS));
     }
-    with_constant_loaded(question)
-}
-
-/// Where no expert is asked for, the Rust's argument is 0.0 at every batch: its list has to be
-/// constant.
-fn with_constant_loaded(mut question: Question) -> Question {
-    let none = matches!(
-        question.drafter,
-        Drafter::Autoregressive {
-            experts_per_tok: 0,
-            ..
-        }
-    );
-    if let (true, Some(&first)) = (none, question.loaded.first()) {
-        question.loaded.fill(first);
-    }
+    with_constant_loaded(question.drafter, &mut question.loaded);
     question
-}
-
-fn drafter(dice: &mut Dice) -> Drafter {
-    match dice.below(5) {
-        0 => Drafter::Fraction {
-            frac: float_up_to(6, dice),
-        },
-        1 => Drafter::BlockParallel {
-            params: float_up_to(18, dice),
-            block: count(dice),
-        },
-        _ => Drafter::Autoregressive {
-            dense_params: float_up_to(18, dice),
-            expert_params: float_up_to(18, dice),
-            num_experts: count(dice),
-            experts_per_tok: count(dice),
-            shared_experts: count(dice),
-        },
-    }
 }
 
 fn asked(n: usize, dice: &mut Dice) -> Asked {
@@ -399,37 +328,4 @@ fn widths(n: usize, dice: &mut Dice) -> Vec<u32> {
         widths[at] = dice.pick(&[64, 65, u32::MAX]);
     }
     widths
-}
-
-fn count(dice: &mut Dice) -> u32 {
-    match dice.below(8) {
-        0 => dice.pick(COUNTS),
-        1 | 2 => dice.below(1_000_001) as u32,
-        _ => dice.below(300) as u32,
-    }
-}
-
-/// A float of 0 to a power of ten, of any size.
-fn float_up_to(power: i32, dice: &mut Dice) -> u64 {
-    let most = 10f64.powi(power).to_bits();
-    match dice.below(12) {
-        0 => 0,
-        1 => most,
-        2 => dice.below(most),
-        3 => f64::to_bits(dice.below(1000) as f64),
-        _ => {
-            let part = dice.between(1, 1 << 30) as f64 / f64::from(1 << 30);
-            let scale = 10f64.powi(dice.between(0, power as usize) as i32);
-            (part * scale).to_bits()
-        }
-    }
-}
-
-/// A float of 1 to 1e18.
-fn rate(dice: &mut Dice) -> u64 {
-    match dice.below(12) {
-        0 => ONE,
-        1 => MOST,
-        _ => float_up_to(18, dice).max(ONE),
-    }
 }

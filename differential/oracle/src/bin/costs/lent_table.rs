@@ -1,7 +1,7 @@
 //! A table that is lent as three columns, and the rules' lookups in it. Floats by their bits.
-use crate::range::{in_range, in_signed_range};
 use crate::table::Row;
 use numbers::word_case::{bits_of, listed};
+use oracle::range::{in_range, in_signed_range};
 
 const MOST_ROWS: u64 = 4096;
 const MOST_SECONDS: f64 = 1e17;

@@ -1,12 +1,10 @@
 //! Writes files of cases of cost tables, of drafter costs and of switching, answered by the rules and
 //! by the unchanged Rust.
 mod decisions;
-mod drafter;
 mod drafters;
 mod lent_table;
 mod lookups;
 mod random;
-mod range;
 mod sample;
 mod switching;
 mod table;

@@ -1,6 +1,6 @@
 //! Switching, as docs/RULES.md has it. Floats by their bits.
-use crate::range::{in_range, in_range_or_infinite, is_finite_and_clear};
 use numbers::word_case::bits_of;
+use oracle::range::{in_range, in_range_or_infinite, is_finite_and_clear};
 
 const MOST_WIDTH: u32 = 64;
 const MOST_ROUNDS: u32 = u32::MAX - 1;

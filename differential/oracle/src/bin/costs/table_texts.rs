@@ -1,6 +1,7 @@
 //! Texts of cost tables: rows of fields, faults in them, and lines made of them.
 use numbers::dice::Dice;
-use numbers::spellings::{damaged, edge, noise};
+use numbers::field_texts::{field_of, whole_or_damaged, without_end};
+use numbers::spellings::{edge, noise};
 use numbers::{decimal_texts, whole_texts};
 
 pub const HEADER: [&str; 3] = ["batch_size", "num_draft_tokens", "step_seconds"];
@@ -166,15 +167,6 @@ impl Text {
     }
 }
 
-/// Takes the last line's end away.
-fn without_end(text: &mut Vec<u8>) {
-    for end in [b'\n', b'\r'] {
-        if text.last() == Some(&end) {
-            text.pop();
-        }
-    }
-}
-
 /// Batch and num_draft_tokens of a row.
 fn place(shape: Shape, at: usize, wide: usize, dice: &mut Dice) -> (u64, u64) {
     match shape {
@@ -257,17 +249,6 @@ fn above_zero(dice: &mut Dice) -> Field {
     }
 }
 
-/// A text that can stand in a field, mostly a short one: it holds no comma and no LF.
-fn field_of(text: impl Fn(&mut Dice) -> Field, dice: &mut Dice) -> Field {
-    loop {
-        let text = text(dice);
-        let is_short = text.len() <= 40 || dice.once_in(8);
-        if is_short && !text.contains(&b',') && !text.contains(&b'\n') {
-            return text;
-        }
-    }
-}
-
 /// A text and how many rows of room it needs: without a fault, with one or two, or damaged in a
 /// byte; at times no text at all.
 pub fn random(mut text: Text, dice: &mut Dice) -> (Vec<u8>, usize) {
@@ -275,15 +256,7 @@ pub fn random(mut text: Text, dice: &mut Dice) -> (Vec<u8>, usize) {
     for _ in 0..dice.pick(&[0, 0, 0, 0, 1, 1, 2]) {
         text.spoil(dice);
     }
-    if dice.once_in(2000) {
-        return (Vec::new(), rows);
-    }
-    let bytes = text.bytes(dice);
-    let bytes = if dice.once_in(6) {
-        damaged(&bytes, dice)
-    } else {
-        bytes
-    };
+    let bytes = whole_or_damaged(|dice| text.bytes(dice), dice);
     (bytes, rows)
 }
 

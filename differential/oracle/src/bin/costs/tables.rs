@@ -1,11 +1,11 @@
 //! Cases of cost tables: a text that is read, and lookups in columns that are lent.
 use crate::lent_table::{self, LentTable};
 use crate::table::{self, Row, Table};
-use numbers::refusal::{Reason, Refusal};
+use numbers::refusal::Reason;
 use numbers::word_case::{bits_of, packed, WordCase};
+use oracle::agreement::assert_agreement;
 use oracle::compute::measured::probe;
 use oracle::compute::MeasuredCostTable;
-use oracle::refusals;
 
 /// What a slot of depths or batches holds before the call.
 const WHOLE_BEFORE: u64 = 0xDEAD_BEEF;
@@ -31,7 +31,7 @@ pub fn read(text: &[u8], room: [usize; 3]) -> WordCase {
         .map_err(|fault| fault.to_string())
         .and_then(probe::parse);
     let rust = rust.map(|table| rows_of(&table));
-    assert_agreement(text, &ours, &rust);
+    assert_agreement(text, &ours, &rust, |table, rows| &table.kept == rows);
     let answer = match &ours {
         Ok(table) => [
             vec![0, 0, table.kept.len() as u64],
@@ -69,22 +69,6 @@ fn left_in_columns(table: &Table, room: [usize; 3]) -> Vec<u64> {
         column(room[2], |row| row.seconds, FLOAT_BEFORE),
     ]
     .concat()
-}
-
-/// What both read is equal to the last bit. What the rules refuse and the Rust reads has a listed
-/// reason. What has none the Rust refuses too, with the same number and row.
-fn assert_agreement(text: &[u8], ours: &Result<Table, Refusal>, rust: &Result<Vec<Row>, String>) {
-    let agree = match (ours, rust) {
-        (Ok(table), Ok(rows)) => &table.kept == rows,
-        (Ok(_), Err(_)) => false,
-        (Err(refusal), Ok(_)) => Reason::of(refusal).is_some(),
-        (Err(refusal), Err(error)) => {
-            let number_and_row = (u32::from(refusal.number), refusal.row as u32);
-            Reason::of(refusal).is_some() || refusals::of_text(error) == number_and_row
-        }
-    };
-    let text = text.escape_ascii();
-    assert!(agree, "table {text}: {ours:x?} {rust:x?}");
 }
 
 /// What is asked of a lent table.

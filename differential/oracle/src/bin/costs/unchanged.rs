@@ -1,39 +1,13 @@
 //! What the unchanged Rust answers of drafters and of switching.
-use crate::drafter::Drafter;
 use crate::drafters::{Asked, Question};
 use crate::switching::{Record, Switch};
 use numbers::word_case::bits_of;
-use oracle::config::{
-    AcceptanceModel, DrafterCost, GammaPolicy, SpeculativeConfig, SwitchConstraints,
-};
-use oracle::lent_model::{lend_loaded, loaded_reads};
+use oracle::config::SwitchConstraints;
+use oracle::drafter::Drafter;
+use oracle::lent_model::loaded_reads;
 use oracle::simulation::spec::probe;
 use oracle::simulation::spec::SpecPlanner;
-
-fn cost_of(drafter: Drafter) -> DrafterCost {
-    match drafter {
-        Drafter::Fraction { frac } => DrafterCost::Fraction {
-            frac: f64::from_bits(frac),
-        },
-        Drafter::Autoregressive {
-            dense_params,
-            expert_params,
-            num_experts,
-            experts_per_tok,
-            shared_experts,
-        } => DrafterCost::Autoregressive {
-            dense_params: f64::from_bits(dense_params),
-            expert_params: f64::from_bits(expert_params),
-            num_experts,
-            experts_per_tok,
-            shared_experts,
-        },
-        Drafter::BlockParallel { params, block } => DrafterCost::BlockParallel {
-            params: f64::from_bits(params),
-            block,
-        },
-    }
-}
+use oracle::unchanged::{self, any_config, cost_of};
 
 pub fn is_block(drafter: Drafter) -> bool {
     cost_of(drafter).is_block()
@@ -44,17 +18,7 @@ pub fn cost(question: &Question) -> u64 {
     let drafter = cost_of(question.drafter);
     let [peak, bw, verify_c] =
         [question.rates.peak, question.rates.bw, question.verify_c].map(f64::from_bits);
-    if let DrafterCost::Autoregressive {
-        experts_per_tok, ..
-    } = drafter
-    {
-        let loaded: Vec<f64> = question
-            .loaded
-            .iter()
-            .map(|&bits| f64::from_bits(bits))
-            .collect();
-        lend_loaded(experts_per_tok, &loaded);
-    }
+    unchanged::lend_loaded(question.drafter, &question.loaded);
     let seconds = match &question.asked {
         Asked::Seconds { gamma, batch } => drafter.seconds(*gamma, *batch, peak, bw, verify_c),
         Asked::PassSeconds { batch } => drafter.pass_seconds(*batch, peak, bw),
@@ -113,7 +77,7 @@ fn decide(
     target: u32,
     switch: &SwitchConstraints,
 ) -> Record {
-    let curve: Vec<f64> = curve.iter().map(|&bits| f64::from_bits(bits)).collect();
+    let curve = unchanged::floats(curve);
     let (width, after) = probe::choose(before, target, &curve, switch);
     assert_eq!(width, after.0, "the width is not the record's");
     record_of(after)
@@ -127,16 +91,4 @@ pub fn collected(record: Record) -> (u64, Record) {
     let stall = planner.take_pending_switch_cost(worker);
     let after = planner.record_of(worker).expect("the worker is known");
     (bits_of(stall), record_of(after))
-}
-
-/// A planner's settings: collecting reads none of them.
-fn any_config() -> SpeculativeConfig {
-    SpeculativeConfig {
-        gamma: 0,
-        acceptance: AcceptanceModel::Constant { alpha: 0.0 },
-        policy: GammaPolicy::Fixed,
-        measured_cost: None,
-        switch: SwitchConstraints::default(),
-        drafter: None,
-    }
 }

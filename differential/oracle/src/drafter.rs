@@ -4,7 +4,7 @@ use numbers::word_case::bits_of;
 
 const MOST_COUNT: u32 = 1_000_000;
 const MOST_PARAMS: f64 = 1e18;
-const MOST_GAMMA: u32 = 64;
+pub const MOST_GAMMA: u32 = 64;
 pub const MOST_SEQUENCES: usize = 1024;
 
 #[derive(Clone, Copy, Debug, PartialEq, Eq)]
@@ -58,6 +58,18 @@ impl Rates {
 pub struct Lent<'a> {
     pub verify_c: u64,
     pub loaded: &'a [u64],
+}
+
+/// What else a call is judged by: its other sizes, its other rooms and its other values.
+#[derive(Clone, Copy)]
+pub struct Others {
+    pub are_sizes: bool,
+    pub are_rooms: bool,
+    pub are_values: bool,
+}
+
+fn is_verify_cost(bits: u64) -> bool {
+    in_range(bits, 0.0, 1e9)
 }
 
 impl Drafter {
@@ -114,32 +126,23 @@ impl Drafter {
         }
     }
 
-    /// 12, then 11 for the sizes, then 16 for the loaded experts, then 15 for any value.
-    fn judged(
-        self,
-        is_size: bool,
-        n: usize,
-        rates: Rates,
-        are_values: bool,
-        lent: Lent,
-    ) -> Result<(), u8> {
+    /// 12, then 11 for the sizes, then 16 for the loaded experts and the call's other rooms, then 15
+    /// for any value.
+    pub fn judged(self, n: usize, rates: Rates, loaded: &[u64], others: Others) -> Result<(), u8> {
         let refusal = self.refusal();
         if refusal > 0 {
             return Err(refusal);
         }
-        if !is_size {
+        if !others.are_sizes || n > MOST_SEQUENCES {
             return Err(11);
         }
-        let is_short = self.is_autoregressive() && lent.loaded.len() < n + 1;
-        if is_short {
+        let is_short = self.is_autoregressive() && loaded.len() < n + 1;
+        if is_short || !others.are_rooms {
             return Err(16);
         }
         let are_loaded = !self.is_autoregressive()
-            || lent.loaded[..=n]
-                .iter()
-                .all(|&entry| in_range(entry, 0.0, 1e6));
-        let is_verify = in_range(lent.verify_c, 0.0, 1e9);
-        if rates.are_usable() && are_values && are_loaded && is_verify {
+            || loaded[..=n].iter().all(|&entry| in_range(entry, 0.0, 1e6));
+        if rates.are_usable() && are_loaded && others.are_values {
             return Ok(());
         }
         Err(15)
@@ -147,16 +150,23 @@ impl Drafter {
 
     /// The bits of the seconds of a draft of depth gamma over a batch.
     pub fn seconds(self, gamma: u32, batch: u32, rates: Rates, lent: Lent) -> Result<u64, u8> {
-        let n = batch as usize;
-        let is_size = gamma <= MOST_GAMMA && n <= MOST_SEQUENCES;
-        self.judged(is_size, n, rates, true, lent)?;
+        let others = Others {
+            are_sizes: gamma <= MOST_GAMMA,
+            are_rooms: true,
+            are_values: is_verify_cost(lent.verify_c),
+        };
+        self.judged(batch as usize, rates, lent.loaded, others)?;
         Ok(bits_of(self.cost(gamma, batch, rates, lent)))
     }
 
     /// The bits of the seconds of one pass.
     pub fn pass_seconds(self, batch: u32, rates: Rates, lent: Lent) -> Result<u64, u8> {
-        let n = batch as usize;
-        self.judged(n <= MOST_SEQUENCES, n, rates, true, lent)?;
+        let others = Others {
+            are_sizes: true,
+            are_rooms: true,
+            are_values: is_verify_cost(lent.verify_c),
+        };
+        self.judged(batch as usize, rates, lent.loaded, others)?;
         Ok(bits_of(self.pass(batch, rates, lent)))
     }
 
@@ -164,7 +174,12 @@ impl Drafter {
     pub fn ragged_seconds(self, widths: &[u32], rates: Rates, lent: Lent) -> Result<u64, u8> {
         let n = widths.len();
         let are_widths = widths.iter().all(|&width| width <= MOST_GAMMA);
-        self.judged(n <= MOST_SEQUENCES, n, rates, are_widths, lent)?;
+        let others = Others {
+            are_sizes: true,
+            are_rooms: true,
+            are_values: are_widths && is_verify_cost(lent.verify_c),
+        };
+        self.judged(n, rates, lent.loaded, others)?;
         let widest = widths.iter().copied().max().unwrap_or(0);
         if widest == 0 {
             return Ok(0);
@@ -180,15 +195,16 @@ impl Drafter {
         Ok(bits_of(sum))
     }
 
-    fn pass(self, batch: u32, rates: Rates, lent: Lent) -> f64 {
+    /// The seconds of one pass of what was judged.
+    pub fn pass(self, batch: u32, rates: Rates, lent: Lent) -> f64 {
         if batch == 0 || !self.is_autoregressive() {
             return 0.0;
         }
         self.cost(1, batch, rates, lent)
     }
 
-    /// Each operation in the order of the rules.
-    fn cost(self, gamma: u32, batch: u32, rates: Rates, lent: Lent) -> f64 {
+    /// The seconds of what was judged, each operation in the order of the rules.
+    pub fn cost(self, gamma: u32, batch: u32, rates: Rates, lent: Lent) -> f64 {
         if gamma == 0 {
             return 0.0;
         }

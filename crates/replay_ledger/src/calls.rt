@@ -1,0 +1,182 @@
+// The calls of a sequence. The first word of each is a letter that says which it is; the others are what it is lent. A worker is named by its
+// place among those of the case.
+use crate::many;
+use cases::words;
+use ledger::answer::Answer;
+use ledger::answer::Count;
+use ledger::answer::Decision;
+use ledger::answer::Stall;
+use libc::STDOUT_FILENO;
+use std::num::wrapping_add_u64;
+ghost use Prim.Native.Nat.{_≤_};
+ghost use lib.ListN.{length};
+
+// More than a case has of calls and of workers.
+pub const MOST: usize = 1000;
+
+// The two numbers of a worker.
+pub struct Name {
+    pub a: u64,
+    pub b: u64,
+}
+
+pub fn name_at(names: &[u64], place: usize) -> Name
+    requires { ⌜ place ≤ 2000 ⌝ }
+{
+    Name {
+        a: words::at(names, 2 * place),
+        b: words::at(names, 2 * place + 1),
+    }
+}
+
+// What a call answers: the refusal's number or 0, and the value, 0 where there is none.
+pub struct Outcome {
+    pub refusal: u64,
+    pub value: u64,
+}
+
+pub fn refused(number: u64) -> Outcome {
+    Outcome {
+        refusal: number,
+        value: 0,
+    }
+}
+
+pub fn value(value: u64) -> Outcome {
+    Outcome { refusal: 0, value }
+}
+
+pub fn of_answer(answer: Answer) -> Outcome {
+    match answer {
+        Answer::Done => value(0),
+        Answer::Refused(number) => refused(number),
+    }
+}
+
+pub fn of_count(count: Count) -> Outcome {
+    match count {
+        Count::Is(n) => value(n),
+        Count::Refused(number) => refused(number),
+    }
+}
+
+fn of_stall(stall: Stall) -> Outcome {
+    match stall {
+        Stall::Seconds(seconds) => value(float::bits(seconds)),
+        Stall::Refused(number) => refused(number),
+    }
+}
+
+// How many words a call has, its letter included, and at most those that are left.
+pub fn size(call: &[u64]) -> usize
+    ensures { λ r. ⌜ r ≤ length (now (call .entry)) ⌝ }
+{
+    let size = words_of(words::at(call, 0));
+    if size <= call.len() { size } else { call.len() }
+}
+
+fn words_of(letter: u64) -> usize {
+    match (letter % 256) as u8 {
+        b'p' => 4,
+        b'd' => 8,
+        b'c' => 2,
+        b'j' => 2,
+        b'k' => 2,
+        b's' => 6,
+        b'm' => 7,
+        b'x' => 2,
+        _ => 1,
+    }
+}
+
+// Makes a call.
+pub fn make(call: &[u64], names: &[u64], storage: &mut [u64]) -> Outcome {
+    let letter = (words::at(call, 0) % 256) as u8;
+    if letter == b'p' {
+        return plan(call, Decision::Nothing, storage);
+    }
+    if letter == b'd' {
+        return plan(call, decision(call, names), storage);
+    }
+    if letter == b'w' {
+        return of_answer(ledger::withdraw(storage));
+    }
+    if letter == b'f' {
+        return of_answer(ledger::fresh(storage));
+    }
+    if letter == b'c' {
+        return collect(call, names, storage);
+    }
+    if many::is_many(letter) {
+        return many::make(letter, call, names, storage);
+    }
+    judge(letter, call, names, storage)
+}
+
+fn plan(call: &[u64], decision: Decision, storage: &mut [u64]) -> Outcome {
+    let second = words::at(call, 1);
+    let drafts = words::at(call, 2);
+    let sequences = words::at(call, 3);
+    of_answer(ledger::record(storage, second, drafts, sequences, decision))
+}
+
+// The worker's place, and its record behind the decision.
+fn decision(call: &[u64], names: &[u64]) -> Decision {
+    let name = name_at(names, words::least_at(call, 4, MOST));
+    Decision::Put {
+        a: name.a,
+        b: name.b,
+        width: words::at(call, 5),
+        rounds: words::at(call, 6),
+        stall: words::at(call, 7),
+    }
+}
+
+fn collect(call: &[u64], names: &[u64], storage: &mut [u64]) -> Outcome {
+    let name = name_at(names, words::least_at(call, 1, MOST));
+    of_stall(ledger::collect(storage, name.a, name.b))
+}
+
+fn judge(letter: u8, call: &[u64], names: &[u64], storage: &[u64]) -> Outcome {
+    if letter == b'j' {
+        return refused(ledger::judge_step(storage, words::at(call, 1)));
+    }
+    let name = name_at(names, words::least_at(call, 1, MOST));
+    refused(ledger::judge_worker(storage, name.a, name.b))
+}
+
+// Adds the calls of an answer's words to the number of those made and of those refused.
+pub fn count(ours: &[u64], made: &mut [u64]) {
+    if made.len() < 2 {
+        return;
+    }
+    let calls = ours.len() / 4;
+    made[0] = wrapping_add_u64(made[0], calls as u64);
+    made[1] = wrapping_add_u64(made[1], refusals(ours, calls));
+}
+
+// How many of the calls are refused.
+fn refusals(ours: &[u64], calls: usize) -> u64 {
+    let mut refused = 0u64;
+    let mut rest = ours;
+    let mut k = 0usize;
+    while k < calls {
+        k += 1;
+        if 0 < words::at(rest, 0) {
+            refused = wrapping_add_u64(refused, 1);
+        }
+        if rest.len() < 4 {
+            return refused;
+        }
+        rest = &rest[4..];
+    }
+    refused
+}
+
+pub fn print(made: &[u64]) {
+    io::write_all(STDOUT_FILENO, b"calls ");
+    io::print_decimal(STDOUT_FILENO, words::at(made, 0));
+    io::write_all(STDOUT_FILENO, b", refused ");
+    io::print_decimal(STDOUT_FILENO, words::at(made, 1));
+    io::write_all(STDOUT_FILENO, b"\n");
+}

@@ -1,0 +1,181 @@
+//! Cases of a batch of sequences: its expected acceptance, its best depth and the two gates.
+use crate::drafter::{Drafter, Others, Rates, MOST_GAMMA, MOST_SEQUENCES};
+use crate::plans::chains::{Chains, SLOTS};
+use crate::plans::gate::{Chosen, Gate};
+use crate::plans::goodput::{expected, Costs};
+use crate::plans::unchanged;
+use crate::range::in_range_or_infinite;
+use crate::unchanged::floats;
+use numbers::word_case::{bits_of, listed, WordCase};
+
+/// What a slot of widths holds before the call.
+const WHOLE_BEFORE: u64 = 0xDEAD_BEEF;
+
+/// The bits of what a slot of values holds before the call: 42.0.
+pub const FLOAT_BEFORE: u64 = 0x4045_0000_0000_0000;
+
+/// What is asked of a batch.
+#[derive(Clone, Copy, Debug, PartialEq, Eq)]
+pub enum Asked {
+    Expected,
+    Depth,
+    Ragged,
+    Block,
+}
+
+/// All that a batch is asked with, floats by their bits.
+#[derive(Clone, Debug)]
+pub struct Batch {
+    pub drafter: Drafter,
+    pub rates: Rates,
+    pub gamma: u32,
+    /// The slots that are lent for what is written: values or widths.
+    pub room: usize,
+    pub chains: Chains,
+    pub lengths: Vec<u32>,
+    pub curve: Vec<u64>,
+    pub loaded: Vec<u64>,
+}
+
+impl Batch {
+    pub fn n(&self) -> usize {
+        self.lengths.len()
+    }
+
+    pub fn case(&self, asked: Asked) -> WordCase {
+        match asked {
+            Asked::Expected => self.expected(),
+            Asked::Depth => self.depth(),
+            Asked::Ragged => self.gate(b'r', |gate| gate.ragged(), unchanged::Asked::ragged),
+            Asked::Block => self.gate(b'v', |gate| gate.block(), unchanged::Asked::block),
+        }
+    }
+
+    fn words(&self) -> Vec<u64> {
+        let sizes = [u64::from(self.gamma), self.room as u64];
+        [
+            &self.drafter.words()[..],
+            &self.rates.words(),
+            &sizes,
+            &self.chains.words(),
+            &listed(self.lengths.iter().map(|&length| length.into())),
+            &listed(self.curve.iter().copied()),
+            &listed(self.loaded.iter().copied()),
+        ]
+        .concat()
+    }
+
+    /// Whether the chains are there.
+    fn are_slots(&self) -> bool {
+        self.chains.slots >= self.n() * SLOTS
+    }
+
+    fn are_survivals(&self) -> bool {
+        self.chains.are_in_range(&self.lengths, self.gamma)
+    }
+
+    /// The prices of the depths 0 to gamma, or as many as there are.
+    fn prices(&self) -> &[u64] {
+        let count = self.curve.len().min(self.gamma as usize + 1);
+        &self.curve[..count]
+    }
+
+    fn costs(&self) -> Costs<'_> {
+        Costs {
+            drafter: self.drafter,
+            rates: self.rates,
+            n: self.n() as u32,
+            loaded: &self.loaded,
+        }
+    }
+
+    fn unchanged(&self) -> unchanged::Asked {
+        unchanged::Asked::new(self.costs(), self.gamma, floats(self.prices()))
+    }
+
+    /// 11, then 16, then 15: the drafter, the rates and the curve are not used.
+    fn expected_refusal(&self) -> u8 {
+        if self.gamma > MOST_GAMMA || self.n() > MOST_SEQUENCES {
+            11
+        } else if !self.are_slots() || self.room <= self.gamma as usize {
+            16
+        } else if !self.are_survivals() {
+            15
+        } else {
+            0
+        }
+    }
+
+    fn expected(&self) -> WordCase {
+        let refusal = self.expected_refusal();
+        let mut answer = vec![u64::from(refusal)];
+        if refusal == 0 {
+            let chains = self.chains.floats(&self.lengths);
+            let values = expected(&chains, self.gamma).into_iter().map(bits_of);
+            let rust = unchanged::expected(&chains, self.gamma);
+            answer.extend(values);
+            assert_eq!(answer[1..], rust, "{self:x?}");
+        }
+        answer.resize(1 + self.room, FLOAT_BEFORE);
+        WordCase::new(b'e', self.words(), answer)
+    }
+
+    /// 12, then 11, then 16, then 15; `are_widths`: whether there is room for what is written.
+    fn judged(&self, are_widths: bool) -> Result<(), u8> {
+        let gamma = self.gamma as usize;
+        let is_price = |&price: &u64| in_range_or_infinite(price, 0.0, 1e9);
+        let others = Others {
+            are_sizes: self.gamma <= MOST_GAMMA,
+            are_rooms: are_widths && self.are_slots() && gamma < self.curve.len(),
+            are_values: self.are_survivals() && self.prices().iter().all(is_price),
+        };
+        self.drafter
+            .judged(self.n(), self.rates, &self.loaded, others)
+    }
+
+    fn best(&self, chains: &[Vec<f64>]) -> u32 {
+        let prices = floats(self.prices());
+        self.costs()
+            .best_depth(&expected(chains, self.gamma), &prices)
+    }
+
+    fn depth(&self) -> WordCase {
+        let answer = self.judged(true).map(|()| {
+            let chains = self.chains.floats(&self.lengths);
+            let depth = self.best(&chains);
+            assert_eq!(depth, self.unchanged().depth(&chains), "{self:x?}");
+            depth
+        });
+        let answer = answer.map_or_else(|number| [number.into(), 0], |depth| [0, depth.into()]);
+        WordCase::new(b'a', self.words(), answer.to_vec())
+    }
+
+    fn gate(
+        &self,
+        letter: u8,
+        ours: fn(&Gate) -> Chosen,
+        rust: fn(&unchanged::Asked, &[Vec<f64>]) -> Chosen,
+    ) -> WordCase {
+        let chosen = self.judged(self.n() <= self.room).map(|()| {
+            let chains = self.chains.floats(&self.lengths);
+            let gate = Gate {
+                chains: &chains,
+                prices: &floats(self.prices()),
+                depth: self.best(&chains),
+                costs: self.costs(),
+            };
+            let chosen = ours(&gate);
+            assert_eq!(chosen, rust(&self.unchanged(), &chains), "{self:x?}");
+            chosen
+        });
+        let mut answer = match chosen {
+            Ok(chosen) => {
+                let widths = chosen.widths.iter().map(|&width| width.into());
+                [0, chosen.weighed].into_iter().chain(widths).collect()
+            }
+            Err(number) => vec![number.into(), 0],
+        };
+        answer.resize(2 + self.room, WHOLE_BEFORE);
+        WordCase::new(letter, self.words(), answer)
+    }
+}

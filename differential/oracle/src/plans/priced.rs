@@ -1,0 +1,108 @@
+//! Cases of prices without a batch: the total cost of a depth, and the best depth of expected values
+//! that are lent.
+use crate::drafter::{Drafter, Others, Rates, MOST_GAMMA};
+use crate::plans::goodput::Costs;
+use crate::plans::unchanged;
+use crate::range::{in_range, in_range_or_infinite};
+use crate::unchanged::floats;
+use numbers::word_case::{bits_of, listed, WordCase};
+
+/// All that such a case is made of, floats by their bits.
+#[derive(Clone, Debug)]
+pub struct Priced {
+    pub drafter: Drafter,
+    pub rates: Rates,
+    /// Of a total cost the depth that is priced.
+    pub gamma: u32,
+    pub n: u32,
+    pub loaded: Vec<u64>,
+    pub asked: Asked,
+}
+
+#[derive(Clone, Debug)]
+pub enum Asked {
+    Total { verify: u64 },
+    Best { expected: Vec<u64>, curve: Vec<u64> },
+}
+
+impl Priced {
+    pub fn case(&self) -> WordCase {
+        let none = &[][..];
+        match &self.asked {
+            Asked::Total { verify } => {
+                let answer = self.total(*verify);
+                WordCase::new(b't', self.words(*verify, none, none), answer.to_vec())
+            }
+            Asked::Best { expected, curve } => {
+                let answer = self.best(expected, curve);
+                WordCase::new(b'd', self.words(0, expected, curve), answer.to_vec())
+            }
+        }
+    }
+
+    fn words(&self, verify: u64, expected: &[u64], curve: &[u64]) -> Vec<u64> {
+        let numbers = [self.gamma.into(), self.n.into(), verify];
+        [
+            &self.drafter.words()[..],
+            &self.rates.words(),
+            &numbers,
+            &listed(expected.iter().copied()),
+            &listed(curve.iter().copied()),
+            &listed(self.loaded.iter().copied()),
+        ]
+        .concat()
+    }
+
+    fn costs(&self) -> Costs<'_> {
+        Costs {
+            drafter: self.drafter,
+            rates: self.rates,
+            n: self.n,
+            loaded: &self.loaded,
+        }
+    }
+
+    fn judged(&self, are_rooms: bool, are_values: bool) -> Result<(), u8> {
+        let others = Others {
+            are_sizes: self.gamma <= MOST_GAMMA,
+            are_rooms,
+            are_values,
+        };
+        self.drafter
+            .judged(self.n as usize, self.rates, &self.loaded, others)
+    }
+
+    /// The refusal, and the bits of the seconds.
+    fn total(&self, verify: u64) -> [u64; 2] {
+        if let Err(number) = self.judged(true, is_price(verify)) {
+            return [number.into(), 0];
+        }
+        let price = f64::from_bits(verify);
+        let seconds = bits_of(self.costs().total(self.gamma, price));
+        let prices = vec![price; self.gamma as usize + 1];
+        let rust = unchanged::Asked::new(self.costs(), self.gamma, prices);
+        assert_eq!(seconds, bits_of(rust.total_cost(self.gamma)), "{self:x?}");
+        [0, seconds]
+    }
+
+    /// The refusal, and the depth.
+    fn best(&self, expected: &[u64], curve: &[u64]) -> [u64; 2] {
+        let count = self.gamma as usize + 1;
+        let are_rooms = count <= expected.len() && count <= curve.len();
+        let is_expected = |&e: &u64| in_range(e, 0.0, 65536.0);
+        let are_values = expected.iter().take(count).all(is_expected)
+            && curve.iter().take(count).all(|&price| is_price(price));
+        if let Err(number) = self.judged(are_rooms, are_values) {
+            return [number.into(), 0];
+        }
+        let [expected, prices] = [expected, curve].map(|list| floats(&list[..count]));
+        let depth = self.costs().best_depth(&expected, &prices);
+        let rust = unchanged::Asked::new(self.costs(), self.gamma, prices);
+        assert_eq!(depth, rust.best_depth(&expected), "{self:x?}");
+        [0, depth.into()]
+    }
+}
+
+fn is_price(bits: u64) -> bool {
+    in_range_or_infinite(bits, 0.0, 1e9)
+}
