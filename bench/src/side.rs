@@ -1,6 +1,7 @@
 //! Two sides that do the same work, timed turn and turn about.
+use crate::clock::Clock;
 use std::hint::black_box;
-use std::time::{Duration, Instant};
+use std::time::Duration;
 
 const TURNS: usize = 31;
 
@@ -11,6 +12,24 @@ pub fn by_side(name: &str, count: usize, ours: impl Fn() -> u64, rust: impl Fn()
     for _ in 0..TURNS {
         a.push(time(&ours));
         b.push(time(&rust));
+    }
+    tell(name, count, median(a), median(b));
+}
+
+/// The same, where each side works on something that is made ready for each of its turns outside the clock.
+#[cfg(feature = "rust")]
+pub fn by_side_ready<Ours, Rust>(
+    name: &str,
+    count: usize,
+    ours: (impl Fn() -> Ours, impl Fn(&mut Ours) -> u64),
+    rust: (impl Fn() -> Rust, impl Fn(&mut Rust) -> u64),
+) {
+    let (answer, wanted) = (ours.1(&mut ours.0()), rust.1(&mut rust.0()));
+    assert_eq!(answer, wanted, "{name}: the two sides answer differently");
+    let (mut a, mut b) = (Vec::new(), Vec::new());
+    for _ in 0..TURNS {
+        a.push(time_ready(&ours.0, &ours.1));
+        b.push(time_ready(&rust.0, &rust.1));
     }
     tell(name, count, median(a), median(b));
 }
@@ -47,7 +66,7 @@ fn tell(name: &str, count: usize, ours: Duration, rust: Duration) {
 }
 
 fn time(work: &impl Fn() -> u64) -> Duration {
-    let start = Instant::now();
+    let start = Clock::start();
     black_box(work());
     start.elapsed()
 }
@@ -61,11 +80,19 @@ pub fn time_of<Given, Made>(ready: &impl Fn() -> Given, work: &impl Fn(Given) ->
 #[cfg(feature = "rust")]
 fn time_made<Given, Made>(ready: &impl Fn() -> Given, work: &impl Fn(Given) -> Made) -> Duration {
     let given = ready();
-    let start = Instant::now();
+    let start = Clock::start();
     let made = black_box(work(given));
     let taken = start.elapsed();
     drop(made);
     taken
+}
+
+#[cfg(feature = "rust")]
+fn time_ready<Given>(ready: &impl Fn() -> Given, work: &impl Fn(&mut Given) -> u64) -> Duration {
+    let mut given = ready();
+    let start = Clock::start();
+    black_box(work(&mut given));
+    start.elapsed()
 }
 
 fn median(mut times: Vec<Duration>) -> Duration {

@@ -1,0 +1,58 @@
+// The planner's storage: an empty one, a plan counted, and the series.
+use ledger::answer::Answer;
+use ledger::answer::Count;
+use ledger::answer::Decision;
+ghost use mathlib.Core.Path.{_≡_};
+ghost use Rattle.ledger.specs.Calls.{emptied, recorded, seriesRead};
+ghost use Rattle.ledger.specs.declared.answer.Decision.the-variants.{Nothing};
+ghost use Rattle.bench_plans.specs.Figures.{ledgerNumber, countFigure};
+
+// The number of the refusal, 0 for none.
+fn ledger_number(answer: Answer) -> u64
+    ensures { λ r. ⌜ r ≡ ledgerNumber answer ⌝ }
+{
+    match answer {
+        Answer::Done => 0,
+        Answer::Refused(number) => number,
+    }
+}
+
+// An empty planner; the number of the refusal, 0 for none.
+#[no_mangle]
+pub extern "C" fn bench_fresh(storage: &mut [u64]) -> u64
+    ensures { λ r. ⌜ r ≡ ledgerNumber (emptied (now (storage .entry)) .0) ⌝ }
+    ensures { λ r. ⌜ now (storage .exit) ≡ emptied (now (storage .entry)) .1 ⌝ }
+{
+    let answer = ledger::fresh(storage);
+    ledger_number(answer)
+}
+
+// A plan of no worker is counted; the number of the refusal, 0 for none.
+#[no_mangle]
+pub extern "C" fn bench_record(storage: &mut [u64], second: u64, drafts: u64, sequences: u64) -> u64
+    ensures { λ r. ⌜ r ≡ ledgerNumber (recorded (now (storage .entry)) second drafts sequences Nothing .0) ⌝ }
+    ensures { λ r. ⌜ now (storage .exit) ≡ recorded (now (storage .entry)) second drafts sequences Nothing .1 ⌝ }
+{
+    let answer = ledger::record(storage, second, drafts, sequences, Decision::Nothing);
+    ledger_number(answer)
+}
+
+// How many seconds the series has; 2^64 - 1 where it is refused.
+#[no_mangle]
+pub extern "C" fn bench_series(
+    storage: &[u64],
+    seconds: &mut [u64],
+    drafts: &mut [f64],
+    batches: &mut [f64],
+) -> u64
+    ensures { λ r. ⌜ r ≡ countFigure (seriesRead (now (storage .entry)) (now (seconds .entry)) (now (drafts .entry)) (now (batches .entry)) .0) ⌝ }
+    ensures { λ r. ⌜ now (seconds .exit) ≡ seriesRead (now (storage .entry)) (now (seconds .entry)) (now (drafts .entry)) (now (batches .entry)) .1 ⌝ }
+    ensures { λ r. ⌜ now (drafts .exit) ≡ seriesRead (now (storage .entry)) (now (seconds .entry)) (now (drafts .entry)) (now (batches .entry)) .2 ⌝ }
+    ensures { λ r. ⌜ now (batches .exit) ≡ seriesRead (now (storage .entry)) (now (seconds .entry)) (now (drafts .entry)) (now (batches .entry)) .3 ⌝ }
+{
+    let answer = ledger::series(storage, seconds, drafts, batches);
+    match answer {
+        Count::Is(count) => count,
+        Count::Refused(_) => 18446744073709551615,
+    }
+}
