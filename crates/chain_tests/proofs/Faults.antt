@@ -17,7 +17,7 @@ use Rattle.chains.specs.Tests.{allOf, isSurvival}
 use Rattle.chains.proofs.Tested.{all-next, all-end}
 
 -- ---- at most one: no NaN, and one is not below it
-at-most : (a b : ℕ) → (ltb a b || (eqb a b && true)) ≡ not (ltb b a)
+pub at-most : (a b : ℕ) → (ltb a b || (eqb a b && true)) ≡ not (ltb b a)
 at-most a b = go (ltb b a) refl
   where
     go : (z : Bool) → ltb b a ≡ z → (ltb a b || (eqb a b && true)) ≡ not z
@@ -46,7 +46,7 @@ survival-is x = go (isNan x) (lt x f0) (lt f1 x) ∙ ap (λ (b : Bool). not (lt 
     go false false r = refl
 
 -- ---- one more
-and-false : (a : Bool) → (a && false) ≡ false
+pub and-false : (a : Bool) → (a && false) ≡ false
 and-false true = refl
 and-false false = refl
 

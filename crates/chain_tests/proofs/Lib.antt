@@ -1,2 +1,3 @@
 pub mod Batches
 pub mod Faults
+pub mod UpTo

@@ -3,7 +3,7 @@ use chains::inner;
 ghost use mathlib.Core.Path.{_≡_};
 ghost use Prim.Native.Nat.{_≤_, _*_};
 ghost use lib.ListN.{length};
-ghost use mathlib.Core.Bool.{cond};
+ghost use mathlib.Core.Bool.{cond, true};
 ghost use lib.Ieee.{lt, le};
 ghost use Rattle.float.specs.Floats.{f0, f1, isFinite};
 ghost use Rattle.float.specs.Range.{inRange};
@@ -56,34 +56,56 @@ fn past_one(x: f64) -> u64
     if x <= 1.0 { 0 } else { 1 }
 }
 
-// Whether all are in a range.
-pub fn are_in_range(values: &[f64], low: f64, high: f64) -> bool
-    ensures { λ r. ⌜ r ≡ allOf (inRange low high) (now (values .entry)) ⌝ }
+// 0 in 0..high, minus zero out; else 1.
+fn outside(x: f64, high: f64) -> u64
+    requires { ⌜ lt f0 high ≡ true ⌝ }
+    ensures { λ r. ⌜ r ≡ cond (inRange f0 high x) 0 1 ⌝ }
+    ensures { λ r. ⌜ r ≤ 1 ⌝ }
 {
-    let mut d = 0usize;
-    while d < values.len() {
-        if float::in_range(values[d], low, high) {
-            d += 1;
-        } else {
-            return false;
-        }
+    if x <= high {
+        f64::to_bits(x) / 0x8000_0000_0000_0000
+    } else {
+        1
     }
-    true
 }
 
-// Whether all are prices: in 0..10^9, or +infinity.
+// 0 for a price, which is in 0..10^9 or +infinity; else 1.
+fn unpriced(x: f64) -> u64
+    ensures { λ r. ⌜ r ≡ cond (isPrice x) 0 1 ⌝ }
+    ensures { λ r. ⌜ r ≤ 1 ⌝ }
+{
+    if x == f64::from_bits(0x7ff0_0000_0000_0000) {
+        0
+    } else {
+        outside(x, 1e9)
+    }
+}
+
+// Whether all are in 0..high. None ends it, as above.
+pub fn are_up_to(values: &[f64], high: f64) -> bool
+    requires { ⌜ lt f0 high ≡ true ⌝ }
+    ensures { λ r. ⌜ r ≡ allOf (inRange f0 high) (now (values .entry)) ⌝ }
+{
+    let mut faults = 0u64;
+    let mut d = 0usize;
+    while d < values.len() {
+        faults = faults + outside(values[d], high);
+        d += 1;
+    }
+    faults == 0
+}
+
+// Whether all are prices. None ends it.
 pub fn are_prices(values: &[f64]) -> bool
     ensures { λ r. ⌜ r ≡ allOf isPrice (now (values .entry)) ⌝ }
 {
+    let mut faults = 0u64;
     let mut d = 0usize;
     while d < values.len() {
-        if float::in_range_or_infinite(values[d], 0.0, 1e9) {
-            d += 1;
-        } else {
-            return false;
-        }
+        faults = faults + unpriced(values[d]);
+        d += 1;
     }
-    true
+    faults == 0
 }
 
 // Whether no chain is longer than its slots, and the slots up to gamma hold survivals.

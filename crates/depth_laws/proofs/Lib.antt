@@ -1,3 +1,4 @@
+pub mod Fold
 pub mod Clear
 pub mod Wins
 pub mod Domain

@@ -15,7 +15,7 @@ use Rattle.depths.specs.Goodput.{bestFrom, bestDepth, weigh, least, goodputAt, 
 use Rattle.float.proofs.Classes.{clash, clear-no-nan}
 use Rattle.float.proofs.Order.{lt-asym, lt-irrefl, nlt-trans}
 use Rattle.depth_laws.proofs.Clear.{goodput-clear, above-least}
-use Rattle.depths.proofs.Fold.{best-next, best-ended}
+use Rattle.depth_laws.proofs.Fold.{best-next, best-ended}
 
 -- below or at g
 last-or : (h g : ℕ) → h < suc g → (h < g) ⊎ (h ≡ g)

@@ -1,5 +1,5 @@
 -- The depth of the best goodput: it is within the curve, and it is what the calls gave. Assumes nothing.
-use mathlib.Core.Path.{_≡_, ap, _∙_}
+use mathlib.Core.Path.{_≡_, refl, sym, ap, _∙_}
 use mathlib.Core.Bool.{Bool, true, false, cond, _&&_}
 use mathlib.Core.List.{List, [], _∷_}
 use Prim.Native.Nat.{ℕ, suc, _+_, _-_, _≤_, _<_}
@@ -12,9 +12,11 @@ use Rattle.speculative.specs.declared.drafter.Rates.{Rates}
 use Rattle.speculative.specs.declared.drafter.DrafterCost.{DrafterCost}
 use Rattle.chains.specs.Expected.{expectedOver}
 use Rattle.depths.specs.Goodput.{goodputOf, weigh, bestFrom, bestDepth}
-use Rattle.depths.specs.Pricing.{costsFrom, totalCosts, depthOver, gateDepth}
+use Rattle.depths.specs.Pricing.{costsFrom, depthOver, gateDepth}
 use Rattle.depths.specs.declared.inner.Best.{Best}
+use Rattle.depths.specs.Worths.{unweighed, raisedFrom, worthsFrom, allWorths, secondsAt}
 use Rattle.chains.proofs.Fill.{length-scan}
+use Rattle.depths.proofs.Worths.{best-raised}
 
 -- ---- the best depth is within the curve
 either : (t : Bool) (x y : Best) (D : ℕ) → x .depth ≤ D → y .depth ≤ D → cond t x y .depth ≤ D
@@ -32,11 +34,22 @@ depth-within : (n : ℕ) (es cs : List Float) → 0 < length cs → bestDepth n 
 depth-within n es cs h = best-within n 0 _ es cs (length cs - 1) (omega arith) (omega arith)
 
 -- ---- from what the calls gave to the definitions
-pub over-chosen : (kind : DrafterCost) (n : ℕ) (rates : Rates) (loaded : Float) (es curve cs : List Float) (r : ℕ)
-    → cs ≡ totalCosts kind n rates loaded curve → r ≡ bestDepth n es (take (length curve) cs) → r ≡ depthOver kind n rates loaded es curve
+pub over-chosen : (kind : DrafterCost) (n : ℕ) (rates : Rates) (loaded : Float) (es curve ws : List Float) (r : ℕ)
+    → length es ≡ length curve → ws ≡ allWorths n es (secondsAt kind n rates loaded) curve
+    → r ≡ raisedFrom 0 unweighed (take (length curve) ws) .depth → r ≡ depthOver kind n rates loaded es curve
 unfolding depthOver
-over-chosen kind n rates loaded es curve cs r q e =
-    e ∙ ap (bestDepth n es) (ap (take (length curve)) q ∙ take-at (costsFrom kind n rates loaded 0 curve) _ (length curve) (length-scan _ _ 0 curve))
+over-chosen kind n rates loaded es curve ws r l q e =
+    let front : take (length curve) ws ≡ worthsFrom n es (secondsAt kind n rates loaded) 0 curve
+    = ap (take (length curve)) q ∙ take-at (worthsFrom n es (secondsAt kind n rates loaded) 0 curve) _ (length curve) (length-scan _ _ 0 curve) in
+    e ∙ ap (λ (w : List Float). raisedFrom 0 unweighed w .depth) front
+    ∙ ap (λ (b : Best). b .depth) (sym (best-raised kind n rates loaded es 0 unweighed curve (omega (arith, l))))
+
+-- no depth at all
+pub over-none : (kind : DrafterCost) (n : ℕ) (rates : Rates) (loaded : Float) (es curve : List Float)
+    → length es ≡ length curve → length curve ≡ 0 → 0 ≡ depthOver kind n rates loaded es curve
+unfolding depthOver bestFrom
+over-none kind n rates loaded [] curve l h = refl
+over-none kind n rates loaded (e ∷ es) curve l h = absurd (let w : ⊥ = omega (arith, l, h) in w)
 
 pub over-within : (kind : DrafterCost) (n : ℕ) (rates : Rates) (loaded : Float) (es curve : List Float) → 0 < length curve → depthOver kind n rates loaded es curve ≤ length curve - 1
 unfolding depthOver

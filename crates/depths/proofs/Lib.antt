@@ -1,2 +1,3 @@
-pub mod Fold
+pub mod Worths
+pub mod Halves
 pub mod Depths

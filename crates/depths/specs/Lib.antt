@@ -1,2 +1,3 @@
 pub mod Goodput
 pub mod Pricing
+pub mod Worths

@@ -1,10 +1,10 @@
 -- What a depth costs, and the depth that the Rust's loop ends with. Assumes nothing.
 use Prim.Native.Nat.{ℕ, suc, _-_}
 use mathlib.Core.Bool.{cond}
-use mathlib.Core.List.{List, _++_}
-use lib.ListN.{length, take, replicate}
+use mathlib.Core.List.{List}
+use lib.ListN.{length, take}
 use lib.Ieee.{Float}
-use Rattle.float.specs.Floats.{plus, f0, isFinite}
+use Rattle.float.specs.Floats.{plus, isFinite}
 use Rattle.speculative.specs.Drafter.{drafterSeconds}
 use Rattle.speculative.specs.declared.drafter.Rates.{Rates}
 use Rattle.speculative.specs.declared.drafter.DrafterCost.{DrafterCost}
@@ -21,10 +21,6 @@ module _ (kind : DrafterCost) (n : ℕ) (rates : Rates) (loaded : Float) where
   -- the costs of the depths from g on
   abbrev pub costsFrom : ℕ → List Float → List Float
   costsFrom g curve = scan (λ d _. suc d) totalCost g curve
-
-  -- 65 slots: each depth's cost, and 0.0 past the curve
-  abbrev pub totalCosts : List Float → List Float
-  totalCosts curve = costsFrom 0 curve ++ replicate (65 - length curve) f0
 
   -- what the Rust's loop ends with
   unfoldable pub depthOver : List Float → List Float → ℕ

@@ -3,17 +3,33 @@ use chains::inner::expected_over;
 use speculative::drafter::DrafterCost;
 use speculative::drafter::Rates;
 ghost use mathlib.Core.Path.{_≡_};
-ghost use Prim.Native.Nat.{_≤_, _<_, _-_};
+ghost use mathlib.Core.Bool.{cond};
+ghost use Prim.Native.Nat.{_≤_, _<_, _+_, _-_};
 ghost use lib.ListN.{length};
+ghost use lib.Ieee.{lt};
 ghost use Rattle.chains.specs.Expected.{Fits};
-ghost use Rattle.depths.specs.Goodput.{goodputOf, weigh, bestDepth};
-ghost use Rattle.depths.specs.Pricing.{totalCost, totalCosts, depthOver, gateDepth};
+ghost use Rattle.depths.specs.Goodput.{tiny};
+ghost use Rattle.depths.specs.Pricing.{totalCost, depthOver, gateDepth};
+ghost use Rattle.depths.specs.Worths.{worthOf, raise, unweighed, raisedFrom, allWorths, ofFraction, ofBlock, secondsAt};
 
-// (expected + n) / max(cost, 1e-12)
-pub fn goodput(expected: f64, n: u32, cost: f64) -> f64
-    ensures { λ r. ⌜ r ≡ goodputOf n expected cost ⌝ }
+// The cost that a goodput is divided by: not below 1e-12.
+fn divisor(cost: f64) -> f64
+    ensures { λ r. ⌜ r ≡ cond (lt cost tiny) tiny cost ⌝ }
 {
-    (expected + n as f64) / float::max(cost, 1e-12)
+    if cost < 1e-12 { 1e-12 } else { cost }
+}
+
+// The goodput where the cost is finite, else a NaN, which wins against nothing. All is worked out for every depth, so that
+// two depths can be worked out in one step.
+fn worth(expected: f64, n: u32, cost: f64) -> f64
+    ensures { λ r. ⌜ r ≡ worthOf n expected cost ⌝ }
+{
+    let goodput = (expected + n as f64) / divisor(cost);
+    if float::is_finite(cost) {
+        goodput
+    } else {
+        0.0 / 0.0
+    }
 }
 
 // The best depth so far, and its goodput.
@@ -23,14 +39,10 @@ pub struct Best {
 }
 
 impl Best {
-    // The best once depth `g` is weighed too: a depth of no finite cost is passed over, and an equal one does not win.
-    pub fn weighed(self, g: u32, n: u32, expected: f64, cost: f64) -> Best
-        ensures { λ r. ⌜ r ≡ weigh n self g expected cost ⌝ }
+    // The best once depth `g` is weighed too: an equal one does not win.
+    fn raised(self, g: u32, worth: f64) -> Best
+        ensures { λ r. ⌜ r ≡ raise self g worth ⌝ }
     {
-        if !float::is_finite(cost) {
-            return self;
-        }
-        let worth = goodput(expected, n, cost);
         if self.worth < worth {
             Best { depth: g, worth }
         } else {
@@ -39,21 +51,32 @@ impl Best {
     }
 }
 
-// The depth of the best goodput of two curves, each of an expected value and a cost for every depth from 0.
-pub fn argmax(expected: &[f64], costs: &[f64], n: u32) -> u32
-    requires { ⌜ length (now expected) ≡ length (now costs) ⌝ }
-    requires { ⌜ length (now costs) ≤ 65 ⌝ }
-    ensures { λ r. ⌜ r ≡ bestDepth n (now (expected .entry)) (now (costs .entry)) ⌝ }
+// The best of the depths from `from` on, each with its worth.
+fn best_in(worths: &[f64], from: usize) -> Best
+    requires { ⌜ from + length (now worths) ≤ 65 ⌝ }
+    ensures { λ r. ⌜ r ≡ raisedFrom from unweighed (now (worths .entry)) ⌝ }
 {
     let mut best = Best {
         depth: 0,
         worth: -1.7976931348623157e308,
     };
     let mut g = 0usize;
-    while g < costs.len() {
-        best = best.weighed(g as u32, n, expected[g], costs[g]);
+    while g < worths.len() {
+        best = best.raised((from + g) as u32, worths[g]);
         g += 1;
     }
+    best
+}
+
+// The depth of the best worth. The two halves do not wait for each other.
+fn best_of(worths: &[f64]) -> u32
+    requires { ⌜ length (now worths) ≤ 65 ⌝ }
+    ensures { λ r. ⌜ r ≡ raisedFrom 0 unweighed (now (worths .entry)) .depth ⌝ }
+{
+    let half = worths.len() / 2;
+    let low = best_in(&worths[..half], 0);
+    let high = best_in(&worths[half..], half);
+    let best = low.raised(high.depth, high.worth);
     best.depth
 }
 
@@ -76,25 +99,91 @@ pub fn total_cost(
     }
 }
 
-// The total cost of each depth of the curve, and 0.0 in the slots past it.
-pub fn total_costs(
-    drafter: DrafterCost,
+// What each depth of the curve is worth where each draft costs a fraction of the verify cost, and 0.0 in the slots past it.
+fn worths_fraction(frac: f64, expected: &[f64], curve: &[f64], n: u32) -> [f64; 65]
+    requires { ⌜ length (now expected) ≡ length (now curve) ⌝ }
+    requires { ⌜ (0 < length (now curve)) × (length (now curve) ≤ 65) ⌝ }
+    ensures { λ r. ⌜ r ≡ allWorths n (now (expected .entry)) (ofFraction frac) (now (curve .entry)) ⌝ }
+{
+    let mut out = [0.0; 65];
+    out[0] = worth(expected[0], n, curve[0] + 0.0);
+    let mut g = 1usize;
+    while g < curve.len() {
+        let verify = curve[g];
+        let each = worth(expected[g], n, verify + frac * (g as u32 as f64) * verify);
+        out[g] = each;
+        g += 1;
+    }
+    out
+}
+
+// The same where a draft of any depth above 0 costs the same seconds.
+fn worths_block(seconds: f64, expected: &[f64], curve: &[f64], n: u32) -> [f64; 65]
+    requires { ⌜ length (now expected) ≡ length (now curve) ⌝ }
+    requires { ⌜ (0 < length (now curve)) × (length (now curve) ≤ 65) ⌝ }
+    ensures { λ r. ⌜ r ≡ allWorths n (now (expected .entry)) (ofBlock seconds) (now (curve .entry)) ⌝ }
+{
+    let mut out = [0.0; 65];
+    out[0] = worth(expected[0], n, curve[0] + 0.0);
+    let mut g = 1usize;
+    while g < curve.len() {
+        let verify = curve[g];
+        let each = worth(expected[g], n, verify + seconds);
+        out[g] = each;
+        g += 1;
+    }
+    out
+}
+
+// The same for every drafter: its seconds are asked for at each depth.
+fn worths_each(
+    expected: &[f64],
     curve: &[f64],
     n: u32,
+    drafter: DrafterCost,
     rates: Rates,
     loaded: f64,
 ) -> [f64; 65]
+    requires { ⌜ length (now expected) ≡ length (now curve) ⌝ }
     requires { ⌜ length (now curve) ≤ 65 ⌝ }
-    ensures { λ r. ⌜ r ≡ totalCosts drafter n rates loaded (now (curve .entry)) ⌝ }
+    ensures { λ r. ⌜ r ≡ allWorths n (now (expected .entry)) (secondsAt drafter n rates loaded) (now (curve .entry)) ⌝ }
 {
     let mut out = [0.0; 65];
     let mut g = 0usize;
     while g < curve.len() {
-        let cost = total_cost(drafter, g as u32, n, rates, curve[g], loaded);
-        out[g] = cost;
+        let verify = curve[g];
+        let drafts = speculative::inner::seconds(drafter, g as u32, n, rates, verify, loaded);
+        let each = worth(expected[g], n, verify + drafts);
+        out[g] = each;
         g += 1;
     }
     out
+}
+
+// What each depth of the curve is worth, and 0.0 in the slots past it; a fraction and a block have loops of their own, in
+// which no depth asks for the kind.
+fn all_worths(
+    expected: &[f64],
+    curve: &[f64],
+    n: u32,
+    drafter: DrafterCost,
+    rates: Rates,
+    loaded: f64,
+) -> [f64; 65]
+    requires { ⌜ length (now expected) ≡ length (now curve) ⌝ }
+    requires { ⌜ (0 < length (now curve)) × (length (now curve) ≤ 65) ⌝ }
+    ensures { λ r. ⌜ r ≡ allWorths n (now (expected .entry)) (secondsAt drafter n rates loaded) (now (curve .entry)) ⌝ }
+{
+    match drafter {
+        DrafterCost::Fraction { frac } => worths_fraction(frac, expected, curve, n),
+        DrafterCost::Autoregressive { .. } => {
+            worths_each(expected, curve, n, drafter, rates, loaded)
+        }
+        DrafterCost::BlockParallel { .. } => {
+            let seconds = speculative::inner::seconds(drafter, 1, n, rates, 0.0, loaded);
+            worths_block(seconds, expected, curve, n)
+        }
+    }
 }
 
 // The depth of the best goodput of expected values and a price curve of one length.
@@ -111,8 +200,11 @@ pub fn depth_over(
     ensures { λ r. ⌜ r ≡ depthOver drafter n rates loaded (now (expected .entry)) (now (curve .entry)) ⌝ }
 {
     let len = curve.len();
-    let costs = total_costs(drafter, curve, n, rates, loaded);
-    argmax(expected, &costs[..len], n)
+    if len == 0 {
+        return 0;
+    }
+    let worths = all_worths(expected, curve, n, drafter, rates, loaded);
+    best_of(&worths[..len])
 }
 
 // The depth of the best goodput for the batch as a whole; `loaded` is what the whole batch loads.

@@ -134,7 +134,7 @@ pub fn bank_values_refusal(curve: &[f64], depth: u32, gamma: u32, n: u32, room: 
     if room <= gamma as usize {
         return 16;
     }
-    if chain_tests::are_in_range(&curve[..last + 1], 0.0, 64.0) {
+    if chain_tests::are_up_to(&curve[..last + 1], 64.0) {
         0
     } else {
         15
@@ -191,7 +191,7 @@ pub fn depth_refusal(
 fn are_weighed(expected: &[f64], curve: &[f64]) -> bool
     ensures { λ r. ⌜ r ≡ isWeighed (now (expected .entry)) (now (curve .entry)) ⌝ }
 {
-    if chain_tests::are_in_range(expected, 0.0, 65536.0) {
+    if chain_tests::are_up_to(expected, 65536.0) {
         chain_tests::are_prices(curve)
     } else {
         false

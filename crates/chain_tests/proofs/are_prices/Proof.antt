@@ -1,33 +1,37 @@
--- `are_prices` meets its contract: from each place on, the answer is that of the entries left. Assumes nothing.
-use mathlib.Core.Path.{_≡_, refl, sym, _∙_}
-use mathlib.Core.Bool.{true, false}
+-- `are_prices` meets its contract: nothing is wrong so far, and the entries left pass, where all do. Assumes nothing.
+use mathlib.Core.Path.{_≡_, refl}
+use mathlib.Core.Bool.{_&&_}
 use Prim.Native.Nat.{_≤_, _-_}
 use native.Mathlib.Omega.{arith}
+use lib.Dec.{eqb}
 use lib.ListN.{length, drop}
-use lib.Ieee.{nan}
+use denote.Ref.{now}
 use Rattle.chains.specs.Tests.{allOf, isPrice}
-use Rattle.chains.proofs.Tested.{all-next, all-end}
+use Rattle.chain_tests.proofs.UpTo.{counted-next, counted-end}
 use borrow.Author.Needs.{needs}
 use Rattle.chain_tests.proofs.are_prices.Statement.{statement}
 use Rattle.chain_tests.proofs.are_prices.Tie as tie
 
 abbrev Inv-loop : tie.InvT-loop
-Inv-loop values d₀ d = (d ≤ length values) × (allOf isPrice values ≡ allOf isPrice (drop d values))
+Inv-loop values faults₀ d₀ faults d = (d ≤ length values) × ((faults ≤ d) × (allOf isPrice values ≡ (eqb faults 0 && allOf isPrice (drop d values))))
 
 abbrev μ-loop : tie.MeasureT-loop
-μ-loop values d₀ d = length values - d
+μ-loop values faults₀ d₀ faults d = length values - d
 
 loop-holds : tie.Need-loop-holds Inv-loop μ-loop
-loop-holds c = (omega arith, refl)
+loop-holds c = (omega arith, (omega arith, refl))
 
-mul-in-range-or-infinite : tie.Need-mul-in-range-or-infinite Inv-loop μ-loop
-mul-in-range-or-infinite c = search needs
+mul-unpriced : tie.Need-mul-unpriced Inv-loop μ-loop
+mul-unpriced c = search needs
 
-shared-slice-read-in-range-or-infinite : tie.Need-shared-slice-read-in-range-or-infinite Inv-loop μ-loop
-shared-slice-read-in-range-or-infinite c = search needs
+shared-slice-read-unpriced : tie.Need-shared-slice-read-unpriced Inv-loop μ-loop
+shared-slice-read-unpriced c = search needs
 
-in-range-or-infinite-requires : tie.Need-in-range-or-infinite-requires Inv-loop μ-loop
-in-range-or-infinite-requires c κs = search needs
+unpriced-requires : tie.Need-unpriced-requires Inv-loop μ-loop
+unpriced-requires c κs = search needs
+
+add-faults : tie.Need-add-faults Inv-loop μ-loop
+add-faults c = omega (arith, c .unpriced .ensures .1, c .before .before .before .loop .inv, c .before .before .loop-test .taken, c .before .before .before .before .before .good)
 
 add-d : tie.Need-add-d Inv-loop μ-loop
 add-d c = search needs
@@ -37,18 +41,16 @@ loop-less c = search needs
 
 loop-again : tie.Need-loop-again Inv-loop μ-loop
 loop-again c =
-    let here = c .before .before .before .before .loop in
-    (omega arith, here .inv .1 ∙ all-next isPrice nan true (c .before .before .before .before .before .before .args .values .now) (here .d) (c .before .before .before .loop-test .taken) (sym (c .before .in-range-or-infinite .ensures) ∙ c .if1 .taken))
+    let here = c .before .before .before .loop in (
+      omega arith,
+      (
+        omega (arith, c .unpriced .ensures .1, here .inv),
+        counted-next isPrice (now (c .before .before .before .before .before .args .values)) (here .d) (here .faults) (here .inv .1 .1) _ (c .before .before .loop-test .taken) (c .unpriced .ensures .0),
+      ),
+    )
 
 returns : tie.Need-returns Inv-loop μ-loop
-returns c =
-    let here = c .before .before .before .before .loop in
-    sym (here .inv .1 ∙ all-next isPrice nan false (c .before .before .before .before .before .before .args .values .now) (here .d) (c .before .before .before .loop-test .taken) (sym (c .before .in-range-or-infinite .ensures) ∙ c .if1 .left))
-
-returns-2 : tie.Need-returns-2 Inv-loop μ-loop
-returns-2 c =
-    let here = c .before .loop in
-    sym (here .inv .1 ∙ all-end isPrice nan (c .before .before .before .args .values .now) (here .d) (c .loop-test .left))
+returns c = counted-end isPrice (now (c .before .before .before .args .values)) (c .before .loop .d) (c .before .loop .faults) (c .before .loop .inv .1 .1) (c .loop-test .left)
 
 pub are-prices-spec : {M : Type 1} → statement M
 are-prices-spec =
@@ -57,11 +59,11 @@ are-prices-spec =
     Inv-loop
     μ-loop
     loop-holds
-    mul-in-range-or-infinite
-    shared-slice-read-in-range-or-infinite
-    in-range-or-infinite-requires
+    mul-unpriced
+    shared-slice-read-unpriced
+    unpriced-requires
+    add-faults
     add-d
     loop-less
     loop-again
-    returns
-    returns-2)
+    returns)

@@ -1,8 +1,9 @@
 -- `bank_values_refusal` meets its contract: each way out is a law of the judge. Assumes nothing.
-use mathlib.Core.Path.{sym, _∙_}
+use mathlib.Core.Path.{refl, sym, _∙_}
 use mathlib.Core.Bool.{true, false}
 use native.Mathlib.Omega.{arith}
 use lib.ListN.{length-take}
+use lib.Ieee.{lt, ofBits}
 use denote.Ref.{now}
 use Rattle.goodput_judges.proofs.Budgets.{bank-first, bank-short, bank-no-room, bank-tested}
 use borrow.Author.Needs.{needs}
@@ -33,24 +34,25 @@ returns-3 c =
     let a = c .before .before .before .before .before .before .args in
     bank-no-room (now (a .curve)) (a .depth) (a .gamma) (a .n) (a .room) (c .before .before .before .before .bank-sizes-refusal .result) (c .before .before .before .before .bank-sizes-refusal .ensures) (c .before .before .smaller .result) (c .before .before .smaller .ensures) (c .before .before .before .if1 .left) (c .if3 .taken)
 
-add-are-in-range : tie.Need-add-are-in-range
-add-are-in-range c = search needs
+add-are-up-to : tie.Need-add-are-up-to
+add-are-up-to c = search needs
 
-slice-aggregate-are-in-range : tie.Need-slice-aggregate-are-in-range
-slice-aggregate-are-in-range c = simp length-take (omega (arith, c .before .before .if2 .left))
+slice-aggregate-are-up-to : tie.Need-slice-aggregate-are-up-to
+slice-aggregate-are-up-to c = simp length-take (omega (arith, c .before .before .if2 .left))
 
-are-in-range-requires : tie.Need-are-in-range-requires
-are-in-range-requires c κs = search needs
+are-up-to-requires : tie.Need-are-up-to-requires
+unfolding lt ofBits
+are-up-to-requires c κs = refl
 
 returns-4 : tie.Need-returns-4
 returns-4 c =
     let a = c .before .before .before .before .before .before .before .before .before .args in
-    bank-tested (now (a .curve)) (a .depth) (a .gamma) (a .n) (a .room) (c .before .before .before .before .before .before .before .bank-sizes-refusal .result) (c .before .before .before .before .before .before .before .bank-sizes-refusal .ensures) (c .before .before .before .before .before .smaller .result) (c .before .before .before .before .before .smaller .ensures) (c .before .before .before .before .before .before .if1 .left) true (c .before .before .before .before .if2 .left) (c .before .before .before .if3 .left) (sym (c .before .are-in-range .ensures) ∙ c .if4 .taken)
+    bank-tested (now (a .curve)) (a .depth) (a .gamma) (a .n) (a .room) (c .before .before .before .before .before .before .before .bank-sizes-refusal .result) (c .before .before .before .before .before .before .before .bank-sizes-refusal .ensures) (c .before .before .before .before .before .smaller .result) (c .before .before .before .before .before .smaller .ensures) (c .before .before .before .before .before .before .if1 .left) true (c .before .before .before .before .if2 .left) (c .before .before .before .if3 .left) (sym (c .before .are-up-to .ensures) ∙ c .if4 .taken)
 
 returns-5 : tie.Need-returns-5
 returns-5 c =
     let a = c .before .before .before .before .before .before .before .before .before .args in
-    bank-tested (now (a .curve)) (a .depth) (a .gamma) (a .n) (a .room) (c .before .before .before .before .before .before .before .bank-sizes-refusal .result) (c .before .before .before .before .before .before .before .bank-sizes-refusal .ensures) (c .before .before .before .before .before .smaller .result) (c .before .before .before .before .before .smaller .ensures) (c .before .before .before .before .before .before .if1 .left) false (c .before .before .before .before .if2 .left) (c .before .before .before .if3 .left) (sym (c .before .are-in-range .ensures) ∙ c .if4 .left)
+    bank-tested (now (a .curve)) (a .depth) (a .gamma) (a .n) (a .room) (c .before .before .before .before .before .before .before .bank-sizes-refusal .result) (c .before .before .before .before .before .before .before .bank-sizes-refusal .ensures) (c .before .before .before .before .before .smaller .result) (c .before .before .before .before .before .smaller .ensures) (c .before .before .before .before .before .before .if1 .left) false (c .before .before .before .before .if2 .left) (c .before .before .before .if3 .left) (sym (c .before .are-up-to .ensures) ∙ c .if4 .left)
 
 pub bank-values-refusal-spec : {M : Type 1} → statement M
 bank-values-refusal-spec =
@@ -62,8 +64,8 @@ bank-values-refusal-spec =
     cast-last
     returns-2
     returns-3
-    add-are-in-range
-    slice-aggregate-are-in-range
-    are-in-range-requires
+    add-are-up-to
+    slice-aggregate-are-up-to
+    are-up-to-requires
     returns-4
     returns-5)
