@@ -15,6 +15,7 @@ pub mod reading;
 pub mod refusal;
 pub mod rounding;
 pub mod sample;
+pub mod sampling;
 pub mod second;
 pub mod spellings;
 pub mod spoil;

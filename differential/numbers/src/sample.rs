@@ -2,10 +2,10 @@
 use crate::case::Case;
 use crate::decimal_texts as decimals;
 use crate::dice::Dice;
+use crate::sampling::in_turn;
 use crate::spellings::{damaged, edges, every_byte};
 use crate::ties::nearest_to_ties;
 use crate::{end_times, whole_texts as wholes};
-use std::collections::HashSet;
 
 const SEED: u64 = 1;
 
@@ -24,11 +24,7 @@ pub fn recorded() -> Vec<Case> {
     let mut groups = decimal_groups(dice);
     groups.extend(whole_groups(dice));
     groups.extend(second_groups(dice));
-    let longest = groups.iter().map(Vec::len).max().unwrap_or(0);
-    let dealt =
-        (0..longest).flat_map(|turn| groups.iter().filter_map(move |group| group.get(turn)));
-    let mut seen = HashSet::new();
-    dealt.filter(|case| seen.insert(*case)).cloned().collect()
+    in_turn(&groups)
 }
 
 fn decimal_groups(dice: &mut Dice) -> Vec<Vec<Case>> {
@@ -82,12 +78,11 @@ fn damaged_copies(
 mod tests {
     use super::*;
     use crate::case::Kind;
+    use crate::sampling::assert_steady;
 
     #[test]
     fn the_sample_is_the_same_each_time_and_of_the_size_wanted() {
-        let cases = recorded();
-        assert_eq!(cases, recorded());
-        assert!((2400..=3500).contains(&cases.len()), "{}", cases.len());
+        assert_steady(recorded, 2400..=3500, 600_000);
     }
 
     #[test]

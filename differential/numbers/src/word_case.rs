@@ -1,6 +1,7 @@
 //! The case that serves every call: words go in, and words come out.
 use crate::case_file::FileCase;
-use std::collections::{BTreeMap, HashSet};
+use crate::sampling::in_turn;
+use std::collections::BTreeMap;
 use std::fmt::{self, Display};
 
 /// How a NaN is written, whatever its sign and its payload.
@@ -86,10 +87,7 @@ pub fn bits_of(value: f64) -> u64 {
 /// beginning holds some of every kind.
 pub fn dealt(groups: Vec<Vec<WordCase>>) -> Vec<WordCase> {
     let hands: Vec<Vec<WordCase>> = groups.into_iter().flat_map(by_kind).collect();
-    let longest = hands.iter().map(Vec::len).max().unwrap_or(0);
-    let dealt = (0..longest).flat_map(|turn| hands.iter().filter_map(move |hand| hand.get(turn)));
-    let mut seen = HashSet::new();
-    dealt.filter(|case| seen.insert(*case)).cloned().collect()
+    in_turn(&hands)
 }
 
 fn by_kind(group: Vec<WordCase>) -> impl Iterator<Item = Vec<WordCase>> {

@@ -5,8 +5,8 @@ use crate::lent::{Room, LARGEST};
 use crate::models;
 use crate::values;
 use numbers::dice::Dice;
+use numbers::sampling::in_turn;
 use numbers::{decimal_texts, spellings, whole_texts};
-use std::collections::HashSet;
 
 const SEED: u64 = 1;
 
@@ -26,11 +26,7 @@ pub fn recorded() -> Vec<Case> {
     let mut groups = bank_groups(dice);
     groups.extend(model_groups(dice));
     groups.extend(value_groups(dice));
-    let longest = groups.iter().map(Vec::len).max().unwrap_or(0);
-    let dealt =
-        (0..longest).flat_map(|turn| groups.iter().filter_map(move |group| group.get(turn)));
-    let mut seen = HashSet::new();
-    dealt.filter(|case| seen.insert(*case)).cloned().collect()
+    in_turn(&groups)
 }
 
 fn bank_groups(dice: &mut Dice) -> Vec<Vec<Case>> {
@@ -238,8 +234,8 @@ mod tests {
     use crate::case::Kind;
     use crate::figures::reason;
     use numbers::case::NO_ANSWER;
-    use numbers::case_file::FileCase;
     use numbers::refusal::Reason;
+    use numbers::sampling::assert_steady;
     use std::collections::BTreeSet;
 
     fn is_bank(case: &&Case) -> bool {
@@ -252,16 +248,14 @@ mod tests {
 
     #[test]
     fn the_sample_is_the_same_each_time_and_of_the_size_wanted() {
+        assert_steady(recorded, 2080..=2830, 600_000);
         let cases = recorded();
-        assert_eq!(cases, recorded());
         let banks = cases.iter().filter(is_bank).count();
         let values = cases.iter().filter(is_value).count();
         let models = cases.len() - banks - values;
-        let bytes: usize = cases.iter().map(|case| case.line().len()).sum();
         assert!((500..=800).contains(&banks), "{banks} banks");
         assert!((1300..=1700).contains(&models), "{models} models");
         assert!((280..=330).contains(&values), "{values} values");
-        assert!(bytes < 600_000, "{bytes} bytes");
     }
 
     #[test]

@@ -241,29 +241,17 @@ fn banks() -> Vec<WordCase> {
 #[cfg(test)]
 mod tests {
     use super::*;
-    use numbers::case_file::FileCase;
-    use std::collections::{BTreeMap, BTreeSet};
+    use numbers::sampling::{assert_steady, kinds_at_the_start, refusals_met};
 
     #[test]
     fn the_sample_is_the_same_each_time_and_of_the_size_wanted() {
-        let cases = recorded();
-        assert_eq!(cases, recorded());
-        let bytes: usize = cases.iter().map(|case| case.line().len()).sum();
-        assert!(
-            (2000..=6000).contains(&cases.len()),
-            "{} cases",
-            cases.len()
-        );
-        assert!(bytes < 3_000_000, "{bytes} bytes");
+        assert_steady(recorded, 2000..=6000, 3_000_000);
     }
 
     #[test]
     fn every_refusal_is_met() {
-        let mut met: BTreeMap<u8, BTreeSet<u64>> = BTreeMap::new();
-        for case in recorded() {
-            met.entry(case.kind).or_default().insert(case.refusal());
-        }
-        let of = |kind: u8| met[&kind].iter().copied().collect::<Vec<u64>>();
+        let met = refusals_met(&recorded());
+        let of = |kind: u8| met[&kind].clone();
         for kind in *b"tda" {
             assert_eq!(of(kind), [0, 11, 12, 15, 16], "{}", kind as char);
         }
@@ -276,8 +264,6 @@ mod tests {
 
     #[test]
     fn a_beginning_holds_every_kind() {
-        let beginning = recorded().into_iter().take(200);
-        let kinds: BTreeSet<u8> = beginning.map(|case| case.kind).collect();
-        assert_eq!(kinds.len(), 8, "{kinds:?}");
+        assert_eq!(kinds_at_the_start(&recorded()), 8);
     }
 }

@@ -38,15 +38,13 @@ pub fn recorded() -> Vec<SequenceCase> {
 #[cfg(test)]
 mod tests {
     use super::*;
-    use numbers::case_file::FileCase;
+    use numbers::sampling::assert_steady;
     use std::collections::BTreeSet;
 
     #[test]
     fn the_sample_is_the_same_each_time_and_of_the_size_wanted() {
+        assert_steady(recorded, 300..=400, 3_000_000);
         let cases = recorded();
-        assert_eq!(cases, recorded());
-        let bytes: usize = cases.iter().map(|case| case.line().len()).sum();
-        assert!(bytes < 3_000_000, "{bytes} bytes");
         let longest = cases.iter().map(|case| case.refusals().count()).max();
         assert_eq!(longest, Some(300));
     }
