@@ -1,16 +1,16 @@
--- Values counted by whether each is out of range: what one comparison and the sign bit say of a value, and none is out where the count is zero. Assumes nothing.
+-- Values and their sign bits: what one comparison and the sign bit say of a value, and none is out of range where the top bit of all of them together is clear. Assumes nothing.
 use mathlib.Core.Path.{_≡_, refl, sym, ap, _∙_}
-use mathlib.Core.Bool.{Bool, true, false, not, cond, _&&_, _||_}
+use mathlib.Core.Bool.{Bool, true, false, not, _&&_, _||_}
 use mathlib.Core.List.{List}
-use Prim.Native.Nat.{ℕ, _+_, _*_, _/_, _≤_, _<_, _^_}
+use Prim.Native.Nat.{ℕ, _+_, _*_, _≤_, _<_, _^_}
 use native.Mathlib.Nat.{mul-pos}
 use native.Mathlib.Omega.{arith}
-use borrow.Author.Tests.{lt-ltb, le-ltb, ne-eqb, ltb-true, ltb-false}
-use lib.Dec.{T, ltb, eqb}
+use borrow.Author.Tests.{lt-ltb, le-ltb, ltb-true, ltb-false}
+use lib.Bits.{bitOr, or-lt, or-add-and, and-le-l, and-le-r}
+use lib.Dec.{T, ltb}
 use lib.ListN.{length, getD, drop}
 use lib.Ieee.{Float, nan, inf, fin, binary64, fits, up, down, lt, le, eq, isNan, ofBits, toBits}
 use lib.Ieee.Fits.{down-pos}
-use lib.Ieee.Bits.{toBits-lt}
 use Rattle.float.specs.Floats.{f0, isClear, infinity}
 use Rattle.float.specs.Range.{inRange, inRangeOrInfinite}
 use Rattle.float.proofs.Classes.{clash}
@@ -51,13 +51,10 @@ range-is (inf false) high h = sym (up-to (inf false) high h)
 range-is (fin false m e) high h =
     rw (le-ltb (m * up e * 1) (0 * 1 * down e) (omega arith)) (sym (up-to (fin false m e) high h))
 
--- the sign bit
-signed : (b : ℕ) → b < 2 ^ 64 → b / 2 ^ 63 ≡ cond (ltb b (2 ^ 63)) 0 1
-signed b h = go (ltb b (2 ^ 63)) refl
-  where
-    go : (z : Bool) → ltb b (2 ^ 63) ≡ z → b / 2 ^ 63 ≡ cond z 0 1
-    go true e = let k : b < 2 ^ 63 = ltb-true _ _ e in omega arith
-    go false e = let k : 2 ^ 63 ≤ b = ltb-false _ _ e in omega arith
+-- ---- what the sign bit says of it
+and-true : (b : Bool) → (b && true) ≡ b
+and-true true = refl
+and-true false = refl
 
 no-nan : (x high : Float) → lt f0 high ≡ true → le x high ≡ true → isNan x ≡ false
 no-nan x high h k = go (isNan x) refl
@@ -69,56 +66,51 @@ no-nan x high h k = go (isNan x) refl
 pub has-bits : (x high : Float) → lt f0 high ≡ true → le x high ≡ true → T (not (isNan x))
 has-bits x high h k = rw (no-nan x high h k) tt
 
-pub signs : (x high : Float) → fits binary64 x ≡ true → lt f0 high ≡ true → le x high ≡ true → toBits binary64 x / 2 ^ 63 ≡ cond (inRange f0 high x) 0 1
-signs x high f h k =
-    signed (toBits binary64 x) (toBits-lt binary64 x (rw f tt))
-    ∙ ap (λ (b : Bool). cond b 0 1) (pattern-clear x f (no-nan x high h k) ∙ sym (and-true (isClear x)) ∙ ap (λ (b : Bool). isClear x && b) (sym k) ∙ sym (range-is x high h))
-  where
-    and-true : (b : Bool) → (b && true) ≡ b
-    and-true true = refl
-    and-true false = refl
+pub bits-say : (x high : Float) → fits binary64 x ≡ true → lt f0 high ≡ true → le x high ≡ true → ltb (toBits binary64 x) (2 ^ 63) ≡ inRange f0 high x
+bits-say x high f h k =
+    pattern-clear x f (no-nan x high h k) ∙ sym (and-true (isClear x)) ∙ ap (λ (b : Bool). isClear x && b) (sym k) ∙ sym (range-is x high h)
 
-pub above : (x high : Float) → lt f0 high ≡ true → le x high ≡ false → _≡_ {A = ℕ} 1 (cond (inRange f0 high x) 0 1)
-above x high h k = sym (ap (λ (b : Bool). cond b 0 1) (range-is x high h ∙ ap (λ (b : Bool). isClear x && b) k ∙ and-false (isClear x)))
-
-pub at-most-one : (b : Bool) (r : ℕ) → r ≡ cond b 0 1 → r ≤ 1
-at-most-one true r e = omega arith
-at-most-one false r e = omega arith
+pub above : (x high : Float) → lt f0 high ≡ true → le x high ≡ false → false ≡ inRange f0 high x
+above x high h k = sym (range-is x high h ∙ ap (λ (b : Bool). isClear x && b) k ∙ and-false (isClear x))
 
 -- ---- or +infinity
-pub is-infinite : (low high x : Float) → eq x infinity ≡ true → _≡_ {A = ℕ} 0 (cond (inRangeOrInfinite low high x) 0 1)
+pub is-infinite : (low high x : Float) → eq x infinity ≡ true → true ≡ inRangeOrInfinite low high x
 unfolding inRangeOrInfinite
-is-infinite low high x h = sym (ap (λ (b : Bool). cond b 0 1) (ap (λ (b : Bool). inRange low high x || b) h ∙ go (inRange low high x)))
+is-infinite low high x h = sym (ap (λ (b : Bool). inRange low high x || b) h ∙ go (inRange low high x))
   where
     go : (b : Bool) → (b || true) ≡ true
     go true = refl
     go false = refl
 
-pub not-infinite : (low high x : Float) (r : ℕ) → eq x infinity ≡ false → r ≡ cond (inRange low high x) 0 1 → r ≡ cond (inRangeOrInfinite low high x) 0 1
+pub not-infinite : (low high x : Float) (r : Bool) → eq x infinity ≡ false → r ≡ inRange low high x → r ≡ inRangeOrInfinite low high x
 unfolding inRangeOrInfinite
-not-infinite low high x r h p = p ∙ sym (ap (λ (b : Bool). cond b 0 1) (ap (λ (b : Bool). inRange low high x || b) h ∙ go (inRange low high x)))
+not-infinite low high x r h p = p ∙ sym (ap (λ (b : Bool). inRange low high x || b) h ∙ go (inRange low high x))
   where
     go : (b : Bool) → (b || false) ≡ b
     go true = refl
     go false = refl
 
 -- ---- one more value, and none left
-one-counted : (t : Bool) (k : ℕ) (R : Bool) → (eqb k 0 && (t && R)) ≡ (eqb (k + cond t 0 1) 0 && R)
-one-counted true k R = let e : k ≡ k + 0 = omega arith in ap (λ (n : ℕ). eqb n 0 && R) e
-one-counted false k R = rw (ne-eqb (k + 1) 0 (λ e. let w : ⊥ = omega arith in w)) (and-false (eqb k 0))
+-- the top bit of two is clear where it is clear in both
+top-clear : (a b : ℕ) → ltb (bitOr a b) (2 ^ 63) ≡ (ltb a (2 ^ 63) && ltb b (2 ^ 63))
+top-clear a b = go (ltb a (2 ^ 63)) (ltb b (2 ^ 63)) refl refl
+  where
+    go : (p q : Bool) → ltb a (2 ^ 63) ≡ p → ltb b (2 ^ 63) ≡ q → ltb (bitOr a b) (2 ^ 63) ≡ (p && q)
+    go true true p q = lt-ltb (bitOr a b) (2 ^ 63) (or-lt 63 a b (ltb-true _ _ p) (ltb-true _ _ q))
+    go true false p q = le-ltb (bitOr a b) (2 ^ 63) (let k : 2 ^ 63 ≤ b = ltb-false _ _ q in omega (arith, or-add-and a b, and-le-l a b))
+    go false q' p q = le-ltb (bitOr a b) (2 ^ 63) (let k : 2 ^ 63 ≤ a = ltb-false _ _ p in omega (arith, or-add-and a b, and-le-r a b))
 
-module _ (test : Float → Bool) (values : List Float) (d faults : ℕ) (inv : allOf test values ≡ (eqb faults 0 && allOf test (drop d values))) where
-  pub counted-next : (a : ℕ) → d < length values → a ≡ cond (test (getD values d nan)) 0 1
-      → allOf test values ≡ (eqb (faults + a) 0 && allOf test (drop (d + 1) values))
-  counted-next a h u =
-      let x = getD values d nan in
+grouped : (a b c : Bool) → (a && (b && c)) ≡ ((a && b) && c)
+grouped true b c = refl
+grouped false b c = refl
+
+module _ (test : Float → Bool) (values : List Float) (d faults : ℕ) (inv : allOf test values ≡ (ltb faults (2 ^ 63) && allOf test (drop d values))) where
+  pub clear-next : (a : ℕ) → d < length values → ltb a (2 ^ 63) ≡ test (getD values d nan)
+      → allOf test values ≡ (ltb (bitOr faults a) (2 ^ 63) && allOf test (drop (d + 1) values))
+  clear-next a h u =
       let R = allOf test (drop (d + 1) values) in
-      inv ∙ ap (λ (z : Bool). eqb faults 0 && z) (all-next test nan (test x) values d h refl) ∙ one-counted (test x) faults R
-      ∙ ap (λ (n : ℕ). eqb (faults + n) 0 && R) (sym u)
+      inv ∙ ap (λ (z : Bool). ltb faults (2 ^ 63) && z) (all-next test nan (ltb a (2 ^ 63)) values d h (sym u))
+      ∙ grouped (ltb faults (2 ^ 63)) (ltb a (2 ^ 63)) R ∙ ap (λ (z : Bool). z && R) (sym (top-clear faults a))
 
-  pub counted-end : length values ≤ d → eqb faults 0 ≡ allOf test values
-  counted-end h = sym (and-true (eqb faults 0)) ∙ ap (λ (z : Bool). eqb faults 0 && z) (sym (all-end test nan values d h)) ∙ sym inv
-    where
-      and-true : (b : Bool) → (b && true) ≡ b
-      and-true true = refl
-      and-true false = refl
+  pub clear-end : length values ≤ d → ltb faults (2 ^ 63) ≡ allOf test values
+  clear-end h = sym (and-true (ltb faults (2 ^ 63))) ∙ ap (λ (z : Bool). ltb faults (2 ^ 63) && z) (sym (all-end test nan values d h)) ∙ sym inv

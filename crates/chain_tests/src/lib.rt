@@ -1,9 +1,10 @@
 // Whether what is lent is in range: signals, survival chains, expected values and prices.
 use chains::inner;
 ghost use mathlib.Core.Path.{_≡_};
-ghost use Prim.Native.Nat.{_≤_, _*_};
+ghost use Prim.Native.Nat.{_≤_, _*_, _^_};
 ghost use lib.ListN.{length};
 ghost use mathlib.Core.Bool.{cond, true};
+ghost use lib.Dec.{ltb};
 ghost use lib.Ieee.{lt, le};
 ghost use Rattle.float.specs.Floats.{f0, f1, isFinite};
 ghost use Rattle.float.specs.Range.{inRange};
@@ -56,23 +57,21 @@ fn past_one(x: f64) -> u64
     if x <= 1.0 { 0 } else { 1 }
 }
 
-// 0 in 0..high, minus zero out; else 1.
+// Its top bit is clear in 0..high, minus zero out; else it is set.
 fn outside(x: f64, high: f64) -> u64
     requires { ⌜ lt f0 high ≡ true ⌝ }
-    ensures { λ r. ⌜ r ≡ cond (inRange f0 high x) 0 1 ⌝ }
-    ensures { λ r. ⌜ r ≤ 1 ⌝ }
+    ensures { λ r. ⌜ ltb r (2 ^ 63) ≡ inRange f0 high x ⌝ }
 {
     if x <= high {
-        f64::to_bits(x) / 0x8000_0000_0000_0000
+        f64::to_bits(x)
     } else {
-        1
+        0xffff_ffff_ffff_ffff
     }
 }
 
-// 0 for a price, which is in 0..10^9 or +infinity; else 1.
+// Its top bit is clear for a price, which is in 0..10^9 or +infinity; else it is set.
 fn unpriced(x: f64) -> u64
-    ensures { λ r. ⌜ r ≡ cond (isPrice x) 0 1 ⌝ }
-    ensures { λ r. ⌜ r ≤ 1 ⌝ }
+    ensures { λ r. ⌜ ltb r (2 ^ 63) ≡ isPrice x ⌝ }
 {
     if x == f64::from_bits(0x7ff0_0000_0000_0000) {
         0
@@ -81,7 +80,7 @@ fn unpriced(x: f64) -> u64
     }
 }
 
-// Whether all are in 0..high. None ends it, as above.
+// Whether all are in 0..high. None ends it, as above: one that is out sets the top bit, which then stays.
 pub fn are_up_to(values: &[f64], high: f64) -> bool
     requires { ⌜ lt f0 high ≡ true ⌝ }
     ensures { λ r. ⌜ r ≡ allOf (inRange f0 high) (now (values .entry)) ⌝ }
@@ -89,10 +88,10 @@ pub fn are_up_to(values: &[f64], high: f64) -> bool
     let mut faults = 0u64;
     let mut d = 0usize;
     while d < values.len() {
-        faults = faults + outside(values[d], high);
+        faults = faults | outside(values[d], high);
         d += 1;
     }
-    faults == 0
+    faults < 0x8000_0000_0000_0000
 }
 
 // Whether all are prices. None ends it.
@@ -102,10 +101,10 @@ pub fn are_prices(values: &[f64]) -> bool
     let mut faults = 0u64;
     let mut d = 0usize;
     while d < values.len() {
-        faults = faults + unpriced(values[d]);
+        faults = faults | unpriced(values[d]);
         d += 1;
     }
-    faults == 0
+    faults < 0x8000_0000_0000_0000
 }
 
 // Whether no chain is longer than its slots, and the slots up to gamma hold survivals.

@@ -4,8 +4,8 @@ use mathlib.Core.Bool.{Bool, true, false, cond, _&&_}
 use mathlib.Core.List.{List, [], _∷_}
 use Prim.Native.Nat.{ℕ, suc, _+_, _-_, _≤_, _<_}
 use native.Mathlib.Omega.{arith}
-use lib.ListN.{length, take}
-use lib.Seq.{take-at}
+use lib.ListN.{length, take, drop, length-append}
+use lib.Seq.{take-at, length-take-le}
 use lib.Ieee.{Float, lt}
 use Rattle.float.specs.Floats.{isFinite}
 use Rattle.speculative.specs.declared.drafter.Rates.{Rates}
@@ -14,7 +14,7 @@ use Rattle.chains.specs.Expected.{expectedOver}
 use Rattle.depths.specs.Goodput.{goodputOf, weigh, bestFrom, bestDepth}
 use Rattle.depths.specs.Pricing.{costsFrom, depthOver, gateDepth}
 use Rattle.depths.specs.declared.inner.Best.{Best}
-use Rattle.depths.specs.Worths.{unweighed, raisedFrom, worthsFrom, allWorths, secondsAt}
+use Rattle.depths.specs.Worths.{unweighed, raisedFrom, worthsFrom, overWorths, secondsAt}
 use Rattle.chains.proofs.Fill.{length-scan}
 use Rattle.depths.proofs.Worths.{best-raised}
 
@@ -34,11 +34,19 @@ depth-within : (n : ℕ) (es cs : List Float) → 0 < length cs → bestDepth n 
 depth-within n es cs h = best-within n 0 _ es cs (length cs - 1) (omega arith) (omega arith)
 
 -- ---- from what the calls gave to the definitions
-pub over-chosen : (kind : DrafterCost) (n : ℕ) (rates : Rates) (loaded : Float) (es curve ws : List Float) (r : ℕ)
-    → length es ≡ length curve → ws ≡ allWorths n es (secondsAt kind n rates loaded) curve
+-- as long as the curve is what is looked at of the buffer that its worths were written to
+pub over-long : (kind : DrafterCost) (n : ℕ) (rates : Rates) (loaded : Float) (es curve out ws : List Float)
+    → length curve ≤ length out → ws ≡ overWorths n es (secondsAt kind n rates loaded) curve out → length (take (length curve) ws) ≡ length curve
+over-long kind n rates loaded es curve out ws h e =
+    let written = worthsFrom n es (secondsAt kind n rates loaded) 0 curve in
+    let l : length written ≡ length curve = length-scan _ _ 0 curve in
+    length-take-le (length curve) ws (omega (arith, ap length e, length-append written (drop (length curve) out), l))
+
+pub over-chosen : (kind : DrafterCost) (n : ℕ) (rates : Rates) (loaded : Float) (es curve out ws : List Float) (r : ℕ)
+    → length es ≡ length curve → ws ≡ overWorths n es (secondsAt kind n rates loaded) curve out
     → r ≡ raisedFrom 0 unweighed (take (length curve) ws) .depth → r ≡ depthOver kind n rates loaded es curve
 unfolding depthOver
-over-chosen kind n rates loaded es curve ws r l q e =
+over-chosen kind n rates loaded es curve out ws r l q e =
     let front : take (length curve) ws ≡ worthsFrom n es (secondsAt kind n rates loaded) 0 curve
     = ap (take (length curve)) q ∙ take-at (worthsFrom n es (secondsAt kind n rates loaded) 0 curve) _ (length curve) (length-scan _ _ 0 curve) in
     e ∙ ap (λ (w : List Float). raisedFrom 0 unweighed w .depth) front

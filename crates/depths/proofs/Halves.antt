@@ -2,10 +2,11 @@
 use mathlib.Core.Path.{_≡_, refl, sym, _∙_, ap}
 use mathlib.Core.Bool.{Bool, true, false, cond}
 use mathlib.Core.List.{List, [], _∷_, _++_}
-use Prim.Native.Nat.{ℕ, suc, _+_, _≤_}
+use Prim.Native.Nat.{ℕ, suc, _+_, _-_, _≤_}
+use native.Mathlib.Nat.{le-of-eq}
 use native.Mathlib.Omega.{arith}
-use lib.ListN.{length, take, drop, take-append-drop}
-use lib.Seq.{length-take-le}
+use lib.ListN.{length, take, drop, take-append-drop, length-drop}
+use lib.Seq.{length-take-le, take-all}
 use lib.Ieee.{Float, lt, neg, isNan, ofBits}
 use Rattle.float.proofs.Order.{lt-asym, lt-irrefl, lt-trans, nlt-trans, above-no-nan}
 use Rattle.float.proofs.Classes.{clash}
@@ -86,13 +87,14 @@ raised-append g b (x ∷ xs) ys =
     raised-append (suc g) (raise b g x) xs ys ∙ ap (λ (k : ℕ). raisedFrom k (raisedFrom (suc g) (raise b g x) xs) ys) e
 
 -- as the code has it: the best of the first h, and the best of the rest against it
-pub halves-joined : (h : ℕ) (low high : Best) (ws : List Float) → h ≤ length ws
-    → low ≡ raisedFrom 0 unweighed (take h ws) → high ≡ raisedFrom h unweighed (drop h ws)
-    → raise low (high .depth) (high .worth) ≡ raisedFrom 0 unweighed ws
-halves-joined h low high ws fit p q =
-    let a = raisedFrom 0 unweighed (take h ws) in
-    let l : 0 + length (take h ws) ≡ h = omega (arith, length-take-le h ws fit) in
-    ap (λ (b : Best). join b high) p ∙ ap (join a) q
-    ∙ sym (best-joined h a (drop h ws) (start-raised 0 unweighed (take h ws) (lt-irrefl least)))
-    ∙ ap (λ (k : ℕ). raisedFrom k a (drop h ws)) (sym l)
-    ∙ sym (raised-append 0 unweighed (take h ws) (drop h ws)) ∙ ap (raisedFrom 0 unweighed) (take-append-drop h ws)
+pub halves-joined : (from h after : ℕ) (low high : Best) (ws : List Float) → h ≤ length ws → after ≡ from + h
+    → low ≡ raisedFrom from unweighed (take h ws) → high ≡ raisedFrom after unweighed (take (length ws - h) (drop h ws))
+    → raise low (high .depth) (high .worth) ≡ raisedFrom from unweighed ws
+halves-joined from h after low high ws fit e p q =
+    let a = raisedFrom from unweighed (take h ws) in
+    let l : after ≡ from + length (take h ws) = omega (arith, length-take-le h ws fit) in
+    let rest : take (length ws - h) (drop h ws) ≡ drop h ws = take-all (length ws - h) (drop h ws) (le-of-eq (length-drop h ws)) in
+    ap (λ (b : Best). join b high) p ∙ ap (join a) (q ∙ ap (raisedFrom after unweighed) rest)
+    ∙ sym (best-joined after a (drop h ws) (start-raised from unweighed (take h ws) (lt-irrefl least)))
+    ∙ ap (λ (k : ℕ). raisedFrom k a (drop h ws)) l
+    ∙ sym (raised-append from unweighed (take h ws) (drop h ws)) ∙ ap (raisedFrom from unweighed) (take-append-drop h ws)

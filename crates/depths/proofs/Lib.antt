@@ -1,3 +1,4 @@
 pub mod Worths
 pub mod Halves
 pub mod Depths
+pub mod Written

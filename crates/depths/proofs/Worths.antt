@@ -8,7 +8,7 @@ use borrow.Author.Tests.{ne-eqb}
 use lib.Dec.{eqb}
 use lib.ListN.{length, drop, getD, drop-of-length-le}
 use lib.Seq.{drop-cons}
-use lib.Ieee.{Float, nan, inf, fin, lt, isNan, add, sum, binary64}
+use lib.Ieee.{Float, nan, inf, fin, lt, isNan, add}
 use Rattle.float.specs.Floats.{plus, over, f0, whole, maxOf, isFinite}
 use Rattle.float.proofs.Order.{nan-not-above}
 use Rattle.float.proofs.Classes.{clash}
@@ -19,7 +19,7 @@ use Rattle.speculative.specs.Drafter.{drafterSeconds}
 use Rattle.depths.specs.declared.inner.Best.{Best}
 use Rattle.depths.specs.Goodput.{tiny, goodputOf, weigh, bestFrom}
 use Rattle.depths.specs.Pricing.{totalCost, costsFrom}
-use Rattle.depths.specs.Worths.{worthOf, raise, raisedFrom, worthsFrom, allWorths, ofFraction, ofBlock, secondsAt}
+use Rattle.depths.specs.Worths.{worthOf, raise, raisedFrom, worthsFrom, overWorths, ofFraction, ofBlock, secondsAt}
 use Rattle.chains.specs.Scan.{scan}
 
 -- ---- one worth
@@ -105,13 +105,13 @@ module _ (kind : DrafterCost) (n : ℕ) (rates : Rates) (loaded : Float) (es : L
       ∙ best-raised (suc g) (raise b g (worthOf n e (plus v (drafterSeconds kind g n rates v loaded)))) curve (omega arith)
 
 -- ---- the loops of one kind
-pub by-fraction : (kind : DrafterCost) (n : ℕ) (rates : Rates) (loaded : Float) (es curve r : List Float) (frac : Float) → kind ≡ Fraction frac
-    → r ≡ allWorths n es (ofFraction frac) curve → r ≡ allWorths n es (secondsAt kind n rates loaded) curve
-by-fraction kind n rates loaded es curve r frac q p = p ∙ ap (λ (k : DrafterCost). allWorths n es (secondsAt k n rates loaded) curve) (sym q)
+pub by-fraction : (kind : DrafterCost) (n : ℕ) (rates : Rates) (loaded : Float) (es curve out r : List Float) (frac : Float) → kind ≡ Fraction frac
+    → r ≡ overWorths n es (ofFraction frac) curve out → r ≡ overWorths n es (secondsAt kind n rates loaded) curve out
+by-fraction kind n rates loaded es curve out r frac q p = p ∙ ap (λ (k : DrafterCost). overWorths n es (secondsAt k n rates loaded) curve out) (sym q)
 
 -- a block costs the same at every depth above 0
-pub by-block : (kind : DrafterCost) (n : ℕ) (rates : Rates) (loaded : Float) (es curve r : List Float) (params : Float) (block : ℕ) (s : Float) → kind ≡ BlockParallel params block
-    → s ≡ secondsAt kind n rates loaded 1 f0 → r ≡ allWorths n es (ofBlock s) curve → r ≡ allWorths n es (secondsAt kind n rates loaded) curve
-by-block kind n rates loaded es curve r params block s q t p =
-    p ∙ ap (λ (x : Float). allWorths n es (ofBlock x) curve) (t ∙ ap (λ (k : DrafterCost). secondsAt k n rates loaded 1 f0) q)
-    ∙ ap (λ (k : DrafterCost). allWorths n es (secondsAt k n rates loaded) curve) (sym q)
+pub by-block : (kind : DrafterCost) (n : ℕ) (rates : Rates) (loaded : Float) (es curve out r : List Float) (params : Float) (block : ℕ) (s : Float) → kind ≡ BlockParallel params block
+    → s ≡ secondsAt kind n rates loaded 1 f0 → r ≡ overWorths n es (ofBlock s) curve out → r ≡ overWorths n es (secondsAt kind n rates loaded) curve out
+by-block kind n rates loaded es curve out r params block s q t p =
+    p ∙ ap (λ (x : Float). overWorths n es (ofBlock x) curve out) (t ∙ ap (λ (k : DrafterCost). secondsAt k n rates loaded 1 f0) q)
+    ∙ ap (λ (k : DrafterCost). overWorths n es (secondsAt k n rates loaded) curve out) (sym q)

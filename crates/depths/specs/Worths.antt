@@ -1,9 +1,9 @@
 -- What each depth is worth, in a list of its own, and the best of such a list. Only functions that this crate keeps to itself are stated so. Assumes nothing.
-use Prim.Native.Nat.{ℕ, suc, _-_}
+use Prim.Native.Nat.{ℕ, suc}
 use mathlib.Core.Bool.{cond}
 use mathlib.Core.List.{List, [], _∷_, _++_}
 use lib.Dec.{eqb}
-use lib.ListN.{length, getD, replicate}
+use lib.ListN.{length, getD, drop}
 use lib.Ieee.{Float, nan, lt}
 use Rattle.float.specs.Floats.{plus, times, f0, whole, isFinite}
 use Rattle.speculative.specs.Drafter.{drafterSeconds}
@@ -38,9 +38,9 @@ module _ (n : ℕ) (es : List Float) (seconds : ℕ → Float → Float) where
   abbrev pub worthsFrom : ℕ → List Float → List Float
   worthsFrom g curve = scan (λ d _. suc d) worthAt g curve
 
-  -- 65 slots: each depth's worth, and 0.0 past the curve
-  abbrev pub allWorths : List Float → List Float
-  allWorths curve = worthsFrom 0 curve ++ replicate (65 - length curve) f0
+  -- the worths over the front of a buffer
+  abbrev pub overWorths : List Float → List Float → List Float
+  overWorths curve out = worthsFrom 0 curve ++ drop (length curve) out
 
 -- the seconds of a fraction, of a block, and of any drafter
 abbrev pub ofFraction : Float → ℕ → Float → Float

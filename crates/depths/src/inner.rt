@@ -10,7 +10,7 @@ ghost use lib.Ieee.{lt};
 ghost use Rattle.chains.specs.Expected.{Fits};
 ghost use Rattle.depths.specs.Goodput.{tiny};
 ghost use Rattle.depths.specs.Pricing.{totalCost, depthOver, gateDepth};
-ghost use Rattle.depths.specs.Worths.{worthOf, raise, unweighed, raisedFrom, allWorths, ofFraction, ofBlock, secondsAt};
+ghost use Rattle.depths.specs.Worths.{worthOf, raise, unweighed, raisedFrom, overWorths, ofFraction, ofBlock, secondsAt};
 
 // The cost that a goodput is divided by: not below 1e-12.
 fn divisor(cost: f64) -> f64
@@ -68,14 +68,25 @@ fn best_in(worths: &[f64], from: usize) -> Best
     best
 }
 
-// The depth of the best worth. The two halves do not wait for each other.
+// The same by halves, which do not wait for each other.
+fn best_by_halves(worths: &[f64], from: usize) -> Best
+    requires { ⌜ from + length (now worths) ≤ 65 ⌝ }
+    ensures { λ r. ⌜ r ≡ raisedFrom from unweighed (now (worths .entry)) ⌝ }
+{
+    let half = worths.len() / 2;
+    let low = best_in(&worths[..half], from);
+    let high = best_in(&worths[half..], from + half);
+    low.raised(high.depth, high.worth)
+}
+
+// The depth of the best worth, by quarters.
 fn best_of(worths: &[f64]) -> u32
     requires { ⌜ length (now worths) ≤ 65 ⌝ }
     ensures { λ r. ⌜ r ≡ raisedFrom 0 unweighed (now (worths .entry)) .depth ⌝ }
 {
     let half = worths.len() / 2;
-    let low = best_in(&worths[..half], 0);
-    let high = best_in(&worths[half..], half);
+    let low = best_by_halves(&worths[..half], 0);
+    let high = best_by_halves(&worths[half..], half);
     let best = low.raised(high.depth, high.worth);
     best.depth
 }
@@ -99,13 +110,13 @@ pub fn total_cost(
     }
 }
 
-// What each depth of the curve is worth where each draft costs a fraction of the verify cost, and 0.0 in the slots past it.
-fn worths_fraction(frac: f64, expected: &[f64], curve: &[f64], n: u32) -> [f64; 65]
+// Writes what each depth of the curve is worth to the front of `out`, where each draft costs a fraction of the verify cost.
+fn fill_fraction(frac: f64, expected: &[f64], curve: &[f64], n: u32, out: &mut [f64])
     requires { ⌜ length (now expected) ≡ length (now curve) ⌝ }
     requires { ⌜ (0 < length (now curve)) × (length (now curve) ≤ 65) ⌝ }
-    ensures { λ r. ⌜ r ≡ allWorths n (now (expected .entry)) (ofFraction frac) (now (curve .entry)) ⌝ }
+    requires { ⌜ length (now curve) ≤ length (now out) ⌝ }
+    ensures { λ _. ⌜ now (out .exit) ≡ overWorths n (now (expected .entry)) (ofFraction frac) (now (curve .entry)) (now (out .entry)) ⌝ }
 {
-    let mut out = [0.0; 65];
     out[0] = worth(expected[0], n, curve[0] + 0.0);
     let mut g = 1usize;
     while g < curve.len() {
@@ -114,16 +125,15 @@ fn worths_fraction(frac: f64, expected: &[f64], curve: &[f64], n: u32) -> [f64; 
         out[g] = each;
         g += 1;
     }
-    out
 }
 
 // The same where a draft of any depth above 0 costs the same seconds.
-fn worths_block(seconds: f64, expected: &[f64], curve: &[f64], n: u32) -> [f64; 65]
+fn fill_block(seconds: f64, expected: &[f64], curve: &[f64], n: u32, out: &mut [f64])
     requires { ⌜ length (now expected) ≡ length (now curve) ⌝ }
     requires { ⌜ (0 < length (now curve)) × (length (now curve) ≤ 65) ⌝ }
-    ensures { λ r. ⌜ r ≡ allWorths n (now (expected .entry)) (ofBlock seconds) (now (curve .entry)) ⌝ }
+    requires { ⌜ length (now curve) ≤ length (now out) ⌝ }
+    ensures { λ _. ⌜ now (out .exit) ≡ overWorths n (now (expected .entry)) (ofBlock seconds) (now (curve .entry)) (now (out .entry)) ⌝ }
 {
-    let mut out = [0.0; 65];
     out[0] = worth(expected[0], n, curve[0] + 0.0);
     let mut g = 1usize;
     while g < curve.len() {
@@ -132,23 +142,23 @@ fn worths_block(seconds: f64, expected: &[f64], curve: &[f64], n: u32) -> [f64; 
         out[g] = each;
         g += 1;
     }
-    out
 }
 
 // The same for every drafter: its seconds are asked for at each depth.
-fn worths_each(
+fn fill_each(
     expected: &[f64],
     curve: &[f64],
     n: u32,
     drafter: DrafterCost,
     rates: Rates,
     loaded: f64,
-) -> [f64; 65]
+    out: &mut [f64],
+)
     requires { ⌜ length (now expected) ≡ length (now curve) ⌝ }
     requires { ⌜ length (now curve) ≤ 65 ⌝ }
-    ensures { λ r. ⌜ r ≡ allWorths n (now (expected .entry)) (secondsAt drafter n rates loaded) (now (curve .entry)) ⌝ }
+    requires { ⌜ length (now curve) ≤ length (now out) ⌝ }
+    ensures { λ _. ⌜ now (out .exit) ≡ overWorths n (now (expected .entry)) (secondsAt drafter n rates loaded) (now (curve .entry)) (now (out .entry)) ⌝ }
 {
-    let mut out = [0.0; 65];
     let mut g = 0usize;
     while g < curve.len() {
         let verify = curve[g];
@@ -157,31 +167,31 @@ fn worths_each(
         out[g] = each;
         g += 1;
     }
-    out
 }
 
-// What each depth of the curve is worth, and 0.0 in the slots past it; a fraction and a block have loops of their own, in
-// which no depth asks for the kind.
-fn all_worths(
+// The same by the kind: a fraction and a block have loops of their own, in which no depth asks for the kind.
+fn fill_worths(
     expected: &[f64],
     curve: &[f64],
     n: u32,
     drafter: DrafterCost,
     rates: Rates,
     loaded: f64,
-) -> [f64; 65]
+    out: &mut [f64],
+)
     requires { ⌜ length (now expected) ≡ length (now curve) ⌝ }
     requires { ⌜ (0 < length (now curve)) × (length (now curve) ≤ 65) ⌝ }
-    ensures { λ r. ⌜ r ≡ allWorths n (now (expected .entry)) (secondsAt drafter n rates loaded) (now (curve .entry)) ⌝ }
+    requires { ⌜ length (now curve) ≤ length (now out) ⌝ }
+    ensures { λ _. ⌜ now (out .exit) ≡ overWorths n (now (expected .entry)) (secondsAt drafter n rates loaded) (now (curve .entry)) (now (out .entry)) ⌝ }
 {
     match drafter {
-        DrafterCost::Fraction { frac } => worths_fraction(frac, expected, curve, n),
+        DrafterCost::Fraction { frac } => fill_fraction(frac, expected, curve, n, out),
         DrafterCost::Autoregressive { .. } => {
-            worths_each(expected, curve, n, drafter, rates, loaded)
+            fill_each(expected, curve, n, drafter, rates, loaded, out)
         }
         DrafterCost::BlockParallel { .. } => {
             let seconds = speculative::inner::seconds(drafter, 1, n, rates, 0.0, loaded);
-            worths_block(seconds, expected, curve, n)
+            fill_block(seconds, expected, curve, n, out)
         }
     }
 }
@@ -203,7 +213,8 @@ pub fn depth_over(
     if len == 0 {
         return 0;
     }
-    let worths = all_worths(expected, curve, n, drafter, rates, loaded);
+    let mut worths = [0.0; 65];
+    fill_worths(expected, curve, n, drafter, rates, loaded, &mut worths);
     best_of(&worths[..len])
 }
 

@@ -1,25 +1,25 @@
--- `are_prices` meets its contract: nothing is wrong so far, and the entries left pass, where all do. Assumes nothing.
+-- `are_prices` meets its contract: the top bit is clear so far, and the entries left pass, where all do. Assumes nothing.
 use mathlib.Core.Path.{_≡_, refl}
 use mathlib.Core.Bool.{_&&_}
-use Prim.Native.Nat.{_≤_, _-_}
+use Prim.Native.Nat.{_≤_, _-_, _^_}
 use native.Mathlib.Omega.{arith}
-use lib.Dec.{eqb}
+use lib.Dec.{ltb}
 use lib.ListN.{length, drop}
 use denote.Ref.{now}
 use Rattle.chains.specs.Tests.{allOf, isPrice}
-use Rattle.chain_tests.proofs.UpTo.{counted-next, counted-end}
+use Rattle.chain_tests.proofs.UpTo.{clear-next, clear-end}
 use borrow.Author.Needs.{needs}
 use Rattle.chain_tests.proofs.are_prices.Statement.{statement}
 use Rattle.chain_tests.proofs.are_prices.Tie as tie
 
 abbrev Inv-loop : tie.InvT-loop
-Inv-loop values faults₀ d₀ faults d = (d ≤ length values) × ((faults ≤ d) × (allOf isPrice values ≡ (eqb faults 0 && allOf isPrice (drop d values))))
+Inv-loop values faults₀ d₀ faults d = (d ≤ length values) × (allOf isPrice values ≡ (ltb faults (2 ^ 63) && allOf isPrice (drop d values)))
 
 abbrev μ-loop : tie.MeasureT-loop
 μ-loop values faults₀ d₀ faults d = length values - d
 
 loop-holds : tie.Need-loop-holds Inv-loop μ-loop
-loop-holds c = (omega arith, (omega arith, refl))
+loop-holds c = (omega arith, refl)
 
 mul-unpriced : tie.Need-mul-unpriced Inv-loop μ-loop
 mul-unpriced c = search needs
@@ -30,9 +30,6 @@ shared-slice-read-unpriced c = search needs
 unpriced-requires : tie.Need-unpriced-requires Inv-loop μ-loop
 unpriced-requires c κs = search needs
 
-add-faults : tie.Need-add-faults Inv-loop μ-loop
-add-faults c = omega (arith, c .unpriced .ensures .1, c .before .before .before .loop .inv, c .before .before .loop-test .taken, c .before .before .before .before .before .good)
-
 add-d : tie.Need-add-d Inv-loop μ-loop
 add-d c = search needs
 
@@ -41,16 +38,10 @@ loop-less c = search needs
 
 loop-again : tie.Need-loop-again Inv-loop μ-loop
 loop-again c =
-    let here = c .before .before .before .loop in (
-      omega arith,
-      (
-        omega (arith, c .unpriced .ensures .1, here .inv),
-        counted-next isPrice (now (c .before .before .before .before .before .args .values)) (here .d) (here .faults) (here .inv .1 .1) _ (c .before .before .loop-test .taken) (c .unpriced .ensures .0),
-      ),
-    )
+    (omega arith, clear-next isPrice (now (c .before .before .before .before .before .args .values)) (c .before .before .before .loop .d) (c .before .before .before .loop .faults) (c .before .before .before .loop .inv .1) _ (c .before .before .loop-test .taken) (c .unpriced .ensures))
 
 returns : tie.Need-returns Inv-loop μ-loop
-returns c = counted-end isPrice (now (c .before .before .before .args .values)) (c .before .loop .d) (c .before .loop .faults) (c .before .loop .inv .1 .1) (c .loop-test .left)
+returns c = clear-end isPrice (now (c .before .before .before .args .values)) (c .before .loop .d) (c .before .loop .faults) (c .before .loop .inv .1) (c .loop-test .left)
 
 pub are-prices-spec : {M : Type 1} → statement M
 are-prices-spec =
@@ -62,7 +53,6 @@ are-prices-spec =
     mul-unpriced
     shared-slice-read-unpriced
     unpriced-requires
-    add-faults
     add-d
     loop-less
     loop-again

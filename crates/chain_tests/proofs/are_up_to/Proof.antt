@@ -1,27 +1,27 @@
--- `are_up_to` meets its contract: nothing is wrong so far, and the entries left pass, where all do. Assumes nothing.
+-- `are_up_to` meets its contract: the top bit is clear so far, and the entries left pass, where all do. Assumes nothing.
 use mathlib.Core.Path.{_≡_, refl}
 use mathlib.Core.Bool.{_&&_}
-use Prim.Native.Nat.{_≤_, _-_}
+use Prim.Native.Nat.{_≤_, _-_, _^_}
 use native.Mathlib.Omega.{arith}
-use lib.Dec.{eqb}
+use lib.Dec.{ltb}
 use lib.ListN.{length, drop}
 use denote.Ref.{now}
 use Rattle.float.specs.Floats.{f0}
 use Rattle.float.specs.Range.{inRange}
 use Rattle.chains.specs.Tests.{allOf}
-use Rattle.chain_tests.proofs.UpTo.{counted-next, counted-end}
+use Rattle.chain_tests.proofs.UpTo.{clear-next, clear-end}
 use borrow.Author.Needs.{needs}
 use Rattle.chain_tests.proofs.are_up_to.Statement.{statement}
 use Rattle.chain_tests.proofs.are_up_to.Tie as tie
 
 abbrev Inv-loop : tie.InvT-loop
-Inv-loop values high faults₀ d₀ faults d = (d ≤ length values) × ((faults ≤ d) × (allOf (inRange f0 high) values ≡ (eqb faults 0 && allOf (inRange f0 high) (drop d values))))
+Inv-loop values high faults₀ d₀ faults d = (d ≤ length values) × (allOf (inRange f0 high) values ≡ (ltb faults (2 ^ 63) && allOf (inRange f0 high) (drop d values)))
 
 abbrev μ-loop : tie.MeasureT-loop
 μ-loop values high faults₀ d₀ faults d = length values - d
 
 loop-holds : tie.Need-loop-holds Inv-loop μ-loop
-loop-holds c = (omega arith, (omega arith, refl))
+loop-holds c = (omega arith, refl)
 
 mul-outside : tie.Need-mul-outside Inv-loop μ-loop
 mul-outside c = search needs
@@ -32,9 +32,6 @@ shared-slice-read-outside c = search needs
 outside-requires : tie.Need-outside-requires Inv-loop μ-loop
 outside-requires c κs = search needs
 
-add-faults : tie.Need-add-faults Inv-loop μ-loop
-add-faults c = omega (arith, c .outside .ensures .1, c .before .before .before .loop .inv, c .before .before .loop-test .taken, c .before .before .before .before .before .good)
-
 add-d : tie.Need-add-d Inv-loop μ-loop
 add-d c = search needs
 
@@ -43,16 +40,10 @@ loop-less c = search needs
 
 loop-again : tie.Need-loop-again Inv-loop μ-loop
 loop-again c =
-    let here = c .before .before .before .loop in (
-      omega arith,
-      (
-        omega (arith, c .outside .ensures .1, here .inv),
-        counted-next (inRange f0 (c .before .before .before .before .before .args .high)) (now (c .before .before .before .before .before .args .values)) (here .d) (here .faults) (here .inv .1 .1) _ (c .before .before .loop-test .taken) (c .outside .ensures .0),
-      ),
-    )
+    (omega arith, clear-next (inRange f0 (c .before .before .before .before .before .args .high)) (now (c .before .before .before .before .before .args .values)) (c .before .before .before .loop .d) (c .before .before .before .loop .faults) (c .before .before .before .loop .inv .1) _ (c .before .before .loop-test .taken) (c .outside .ensures))
 
 returns : tie.Need-returns Inv-loop μ-loop
-returns c = counted-end (inRange f0 (c .before .before .before .args .high)) (now (c .before .before .before .args .values)) (c .before .loop .d) (c .before .loop .faults) (c .before .loop .inv .1 .1) (c .loop-test .left)
+returns c = clear-end (inRange f0 (c .before .before .before .args .high)) (now (c .before .before .before .args .values)) (c .before .loop .d) (c .before .loop .faults) (c .before .loop .inv .1) (c .loop-test .left)
 
 pub are-up-to-spec : {M : Type 1} → statement M
 are-up-to-spec =
@@ -64,7 +55,6 @@ are-up-to-spec =
     mul-outside
     shared-slice-read-outside
     outside-requires
-    add-faults
     add-d
     loop-less
     loop-again

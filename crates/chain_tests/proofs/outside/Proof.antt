@@ -1,7 +1,5 @@
 -- `outside` meets its contract. Assumes nothing.
-use Rattle.float.specs.Floats.{f0}
-use Rattle.float.specs.Range.{inRange}
-use Rattle.chain_tests.proofs.UpTo.{has-bits, signs, above, at-most-one}
+use Rattle.chain_tests.proofs.UpTo.{has-bits, bits-say, above}
 use borrow.Author.Needs.{needs}
 use Rattle.chain_tests.proofs.outside.Statement.{statement}
 use Rattle.chain_tests.proofs.outside.Tie as tie
@@ -10,14 +8,10 @@ float-to-bits-result : tie.Need-float-to-bits-result
 float-to-bits-result c = has-bits _ _ (c .before .pre) (c .if1 .taken)
 
 returns : tie.Need-returns
-returns c =
-    let r = signs (c .before .args .x) (c .before .args .high) (c .before .good .0 .1) (c .before .pre) (c .if1 .taken) in
-    (r, at-most-one (inRange f0 (c .before .args .high) (c .before .args .x)) _ r)
+returns c = bits-say (c .before .args .x) (c .before .args .high) (c .before .good .0 .1) (c .before .pre) (c .if1 .taken)
 
 returns-2 : tie.Need-returns-2
-returns-2 c =
-    let r = above (c .before .args .x) (c .before .args .high) (c .before .pre) (c .if1 .left) in
-    (r, at-most-one (inRange f0 (c .before .args .high) (c .before .args .x)) _ r)
+returns-2 c = above (c .before .args .x) (c .before .args .high) (c .before .pre) (c .if1 .left)
 
 pub outside-spec : {M : Type 1} → statement M
 outside-spec =

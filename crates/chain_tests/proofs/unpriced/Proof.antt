@@ -3,8 +3,7 @@ use mathlib.Core.Path.{refl}
 use lib.Ieee.{lt, ofBits, nanBits}
 use Rattle.float.specs.Floats.{f0}
 use Rattle.speculative.specs.Drafter.{billion}
-use Rattle.chains.specs.Tests.{isPrice}
-use Rattle.chain_tests.proofs.UpTo.{is-infinite, not-infinite, at-most-one}
+use Rattle.chain_tests.proofs.UpTo.{is-infinite, not-infinite}
 use borrow.Author.Needs.{needs}
 use Rattle.chain_tests.proofs.unpriced.Statement.{statement}
 use Rattle.chain_tests.proofs.unpriced.Tie as tie
@@ -18,14 +17,10 @@ unfolding lt ofBits
 outside-requires c κs = refl
 
 returns : tie.Need-returns
-returns c =
-    let r = is-infinite f0 billion (c .before .args .x) (c .if1 .taken) in
-    (r, at-most-one (isPrice (c .before .args .x)) _ r)
+returns c = is-infinite f0 billion (c .before .args .x) (c .if1 .taken)
 
 returns-2 : tie.Need-returns-2
-returns-2 c =
-    let r = not-infinite f0 billion (c .before .before .args .x) _ (c .before .if1 .left) (c .outside .ensures .0) in
-    (r, at-most-one (isPrice (c .before .before .args .x)) _ r)
+returns-2 c = not-infinite f0 billion (c .before .before .args .x) _ (c .before .if1 .left) (c .outside .ensures)
 
 pub unpriced-spec : {M : Type 1} → statement M
 unpriced-spec =

@@ -1,26 +1,22 @@
--- `inner::worths_each` meets its contract: its loop writes what each depth is worth (`Fill`). Assumes nothing.
-use mathlib.Core.Path.{_≡_, refl, ap, _∙_}
-use Prim.Native.Nat.{suc, _-_}
-use native.Mathlib.Numerals.{add-one}
+-- `inner::fill_each` meets its contract: its loop writes what each depth is worth (`Written`). Assumes nothing.
+use Prim.Native.Nat.{_-_}
 use native.Mathlib.Omega.{arith}
 use lib.ListN.{length}
-use lib.Ieee.{nan}
-use Rattle.float.specs.Floats.{f0}
-use Rattle.depths.specs.Worths.{worthAt, worthsFrom, secondsAt}
-use Rattle.chains.proofs.Fill.{Filled, fill-turn, fill-ended}
+use Rattle.depths.specs.Worths.{worthAt, secondsAt}
 use Rattle.depths.proofs.Worths.{drafted}
+use Rattle.depths.proofs.Written.{Written, written-none, written-next, written-all}
 use borrow.Author.Needs.{needs}
-use Rattle.depths.proofs.inner.worths_each.Statement.{statement}
-use Rattle.depths.proofs.inner.worths_each.Tie as tie
+use Rattle.depths.proofs.inner.fill_each.Statement.{statement}
+use Rattle.depths.proofs.inner.fill_each.Tie as tie
 
 abbrev Inv-loop : tie.InvT-loop
-Inv-loop expected curve n drafter rates loaded out₀ g₀ out g = Filled (λ d _. suc d) (worthAt n expected (secondsAt drafter n rates loaded)) nan f0 65 curve (worthsFrom n expected (secondsAt drafter n rates loaded) 0 curve) out g g
+Inv-loop expected curve n drafter rates loaded out₀ g₀ out g = Written (worthAt n expected (secondsAt drafter n rates loaded)) curve out₀ out g
 
 abbrev μ-loop : tie.MeasureT-loop
 μ-loop expected curve n drafter rates loaded out₀ g₀ out g = length curve - g
 
 loop-holds : tie.Need-loop-holds Inv-loop μ-loop
-loop-holds c = record { low = omega arith; long = refl; blanks = refl; done = refl }
+loop-holds c = written-none _ _ _
 
 mul-verify : tie.Need-mul-verify Inv-loop μ-loop
 mul-verify c = search needs
@@ -46,8 +42,8 @@ worth-requires c κs = search needs
 mul-out : tie.Need-mul-out Inv-loop μ-loop
 mul-out c = search needs
 
-array-write-out : tie.Need-array-write-out Inv-loop μ-loop
-array-write-out c = search needs
+slice-write-out : tie.Need-slice-write-out Inv-loop μ-loop
+slice-write-out c = search needs
 
 add-g : tie.Need-add-g Inv-loop μ-loop
 add-g c = search needs
@@ -56,13 +52,16 @@ loop-less : tie.Need-loop-less Inv-loop μ-loop
 loop-less c = search needs
 
 loop-again : tie.Need-loop-again Inv-loop μ-loop
-loop-again c = fill-turn (λ d _. suc d) _ nan f0 65 (omega (arith, c .before .before .before .before .before .before .before .before .pre)) (omega arith) (drafted _ _ _ _ _ _ (c .before .before .seconds .ensures) (c .worth .ensures)) (add-one _) (c .before .before .before .before .before .loop .inv)
+loop-again c = written-next _ _ _ (c .before .before .before .before .before .before .before .before .before .pre .1 .1) (omega arith) (drafted _ _ _ _ _ _ (c .before .before .seconds .ensures) (c .worth .ensures)) (c .before .before .before .before .before .loop .inv)
+
+same-length : tie.Need-same-length Inv-loop μ-loop
+same-length c = c .before .loop .inv .long
 
 returns : tie.Need-returns Inv-loop μ-loop
-returns c = fill-ended (λ d _. suc d) _ nan f0 65 (omega arith) (c .before .loop .inv)
+returns c = written-all _ _ _ (c .loop-test .left) (c .before .loop .inv)
 
-pub worths-each-spec : {M : Type 1} → statement M
-worths-each-spec =
+pub fill-each-spec : {M : Type 1} → statement M
+fill-each-spec =
     tie.close
     (tie.spec
     Inv-loop
@@ -76,8 +75,9 @@ worths-each-spec =
     shared-slice-read-worth
     worth-requires
     mul-out
-    array-write-out
+    slice-write-out
     add-g
     loop-less
     loop-again
+    same-length
     returns)
