@@ -1,2 +1,4 @@
 pub mod Adding
 pub mod Trimming
+mod Passing
+mod Rest

@@ -1,14 +1,17 @@
 // The ragged gate's weighing: the deepest slots are given back while that pays.
-use slots::inner::Slot;
-use slots::inner::flip;
+use crate::left::margin;
+use crate::left::next_look;
+use crate::left::none_pays;
+use slots::inner::deepest;
+use slots::inner::fill_deepest;
 use slots::inner::survival_at;
 use verdict::inner::Tally;
 use verdict::inner::Verdict;
 ghost use mathlib.Core.Path.{_≡_};
 ghost use Prim.Native.Nat.{_+_, _-_, _*_, _≤_, _<_};
-ghost use lib.ListN.{length, getD, set, drop};
-ghost use Rattle.heap.specs.Heap.{Stands, Holds, candidate};
-ghost use Rattle.heap.specs.Greedy.{headOf, frontier};
+ghost use lib.ListN.{length, getD, set};
+ghost use Rattle.heap.specs.Heap.{Holds};
+ghost use Rattle.heap.specs.Greedy.{frontier};
 ghost use Rattle.verdict.specs.Price.{verifyCost};
 ghost use Rattle.verdict.specs.Decision.{removalAt};
 ghost use Rattle.verdict.specs.Tallies.{sumsOf, decisionOf, Rated, StillRated};
@@ -16,45 +19,6 @@ ghost use Rattle.slots.specs.Slots.{Fits, AtMost, stacks, downFrom, survival};
 ghost use Rattle.slots.specs.Gate.{Chosen};
 ghost use Rattle.trim.specs.Ragged.{marginOf, fullDraft, raggedWidths};
 ghost use Rattle.trim.specs.Kept.{Counts, listed};
-
-// The rank of the deepest of w slots of sequence k, if there is one.
-fn deepest(chains: &[f64], k: usize, w: u32) -> Slot
-    requires { ⌜ (k * 64 + 64 ≤ length (now chains)) × (w ≤ 64) ⌝ }
-    ensures { λ s. ⌜ candidate (s .more) (s .rank) ≡ headOf (downFrom w (drop (k * 64) (now (chains .entry)))) ⌝ }
-{
-    if 0 < w {
-        Slot {
-            more: true,
-            rank: flip(float::bits(survival_at(chains, k, w - 1))),
-        }
-    } else {
-        Slot {
-            more: false,
-            rank: 0,
-        }
-    }
-}
-
-// An entry for each sequence that has a slot: its deepest; says how many.
-fn fill(chains: &[f64], widths: &[u32], rank: &mut [u64], seq: &mut [u64]) -> usize
-    requires { ⌜ Fits (now chains) (now widths) (length (now widths)) ⌝ }
-    requires { ⌜ (length (now widths) ≤ length (now rank)) × (length (now widths) ≤ length (now seq)) ⌝ }
-    ensures { λ m. ⌜ (m ≤ length (now (widths .entry))) × Stands (now (rank .exit)) (now (seq .exit)) m (frontier (stacks downFrom (now (widths .entry)) (now (chains .entry)))) ⌝ }
-{
-    let mut m: usize = 0;
-    let mut k: usize = 0;
-    while k < widths.len() {
-        let j = k;
-        k += 1;
-        let slot = deepest(chains, j, widths[j]);
-        if slot.more {
-            rank[m] = slot.rank;
-            seq[m] = j as u64;
-            m += 1;
-        }
-    }
-    m
-}
 
 // Makes entry k one less; says what it is then.
 fn less_one(list: &mut [u32], k: usize) -> u32
@@ -64,15 +28,6 @@ fn less_one(list: &mut [u32], k: usize) -> u32
     let w = list[k] - 1;
     list[k] = w;
     w
-}
-
-// What the last of m sequences adds to a pass.
-fn margin(passes: &[f64], m: u32) -> f64
-    requires { ⌜ (0 < m) × (m < length (now passes)) ⌝ }
-    ensures { λ r. ⌜ r ≡ marginOf (listed (now (passes .entry))) m ⌝ }
-{
-    let at = m as usize;
-    passes[at] - passes[at - 1]
 }
 
 // The verdict on the deepest slot of sequence k.
@@ -125,6 +80,7 @@ fn weigh_all(
     ensures { λ w. ⌜ record { widths = now (widths .exit); weighed = w } ≡ raggedWidths (listed (now (passes .entry))) (verifyCost (now (curve .entry)) n) (now (chains .entry)) depth (now (widths .entry)) ⌝ }
 {
     let mut live = first;
+    let mut due = first;
     let mut weighed: usize = 0;
     let mut tally = start;
     while 0 < live {
@@ -136,6 +92,12 @@ fn weigh_all(
                 return weighed;
             }
             Verdict::Pass => {
+                let look = live <= due;
+                let rest = &seq[..live];
+                if none_pays(look, chains, curve, widths, nk, passes, rest, n, tally) {
+                    return weighed + (live - 1);
+                }
+                due = next_look(live, due);
                 live = heap::inner::settle(rank, seq, live, false, 0);
             }
             Verdict::Take(next) => {
@@ -172,7 +134,7 @@ pub fn trim_from(
     ensures { λ w. ⌜ record { widths = now (widths .exit); weighed = w } ≡ raggedWidths (listed (now (passes .entry))) (verifyCost (now (curve .entry)) (length (now (widths .entry)))) (now (chains .entry)) depth (now (widths .entry)) ⌝ }
 {
     let n = widths.len() as u32;
-    let live = fill(chains, widths, rank, seq);
+    let live = fill_deepest(chains, widths, rank, seq);
     heap::inner::heapify(rank, seq, live);
     weigh_all(
         chains,

@@ -8,13 +8,13 @@ use Rattle.trim.proofs.inner.trim_from.Tie as tie
 cast-n : tie.Need-cast-n
 cast-n c = search needs
 
-fill-requires : tie.Need-fill-requires
-fill-requires c κs = search needs
+fill-deepest-requires : tie.Need-fill-deepest-requires
+fill-deepest-requires c κs = search needs
 
 heapify-requires : tie.Need-heapify-requires
 heapify-requires c κs =
     let room = c .before .before .before .before .before .before .before .before .before .before .before .before .before .before .before .before .before .pre .1 .1 .1 .1 .0 in
-    (omega (arith, c .before .before .before .before .before .before .fill .ensures .0, c .before .before .before .before .before .before .fill .kept .1 .1 .0, room), omega (arith, c .before .before .before .before .before .before .fill .ensures .0, c .before .before .before .before .before .before .fill .kept .1 .1 .1 .0, room))
+    (omega (arith, c .before .before .before .before .before .before .fill-deepest .ensures .0, c .before .before .before .before .before .before .fill-deepest .kept .1 .1 .0, room), omega (arith, c .before .before .before .before .before .before .fill-deepest .ensures .0, c .before .before .before .before .before .before .fill-deepest .kept .1 .1 .1 .0, room))
 
 weigh-all-requires : tie.Need-weigh-all-requires
 weigh-all-requires c κs =
@@ -29,13 +29,13 @@ weigh-all-requires c κs =
             pre .1 .1 .1 .0,
             (
               (
-                omega (arith, c .before .before .before .before .before .before .before .before .heapify .kept .0, c .before .before .before .before .before .before .before .before .before .before .before .before .before .before .before .fill .kept .1 .1 .0, room),
-                omega (arith, c .before .before .before .before .before .before .before .before .heapify .kept .1 .0, c .before .before .before .before .before .before .before .before .before .before .before .before .before .before .before .fill .kept .1 .1 .1 .0, room),
-                c .before .before .before .before .before .before .before .before .before .before .before .before .before .before .before .fill .ensures .0,
+                omega (arith, c .before .before .before .before .before .before .before .before .heapify .kept .0, c .before .before .before .before .before .before .before .before .before .before .before .before .before .before .before .fill-deepest .kept .1 .1 .0, room),
+                omega (arith, c .before .before .before .before .before .before .before .before .heapify .kept .1 .0, c .before .before .before .before .before .before .before .before .before .before .before .before .before .before .before .fill-deepest .kept .1 .1 .1 .0, room),
+                c .before .before .before .before .before .before .before .before .before .before .before .before .before .before .before .fill-deepest .ensures .0,
               ),
               (
                 pre .1 .1 .1 .1 .1 .0,
-                (pre .1 .1 .1 .1 .1 .1, record { stands = c .before .before .before .before .before .before .before .before .heapify .ensures .same _ (c .before .before .before .before .before .before .before .before .before .before .before .before .before .before .before .fill .ensures .1); order = c .before .before .before .before .before .before .before .before .heapify .ensures .order }),
+                (pre .1 .1 .1 .1 .1 .1, record { stands = c .before .before .before .before .before .before .before .before .heapify .ensures .same _ (c .before .before .before .before .before .before .before .before .before .before .before .before .before .before .before .fill-deepest .ensures .1); order = c .before .before .before .before .before .before .before .before .heapify .ensures .order }),
               ),
             ),
           ),
@@ -63,7 +63,7 @@ trim-from-spec =
     tie.close
     (tie.spec
     cast-n
-    fill-requires
+    fill-deepest-requires
     heapify-requires
     weigh-all-requires
     same-length

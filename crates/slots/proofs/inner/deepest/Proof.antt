@@ -6,11 +6,11 @@ use lib.Ieee.{Float, nan}
 use lib.ListN.{drop}
 use lib.Seq.{getD-drop}
 use denote.Ref.{now}
 use Rattle.slots.specs.Slots.{bits, flipped}
 use Rattle.slots.proofs.Stacked.{down-more, down-over}
 use borrow.Author.Needs.{needs}
-use Rattle.trim.proofs.inner.deepest.Statement.{statement}
-use Rattle.trim.proofs.inner.deepest.Tie as tie
+use Rattle.slots.proofs.inner.deepest.Statement.{statement}
+use Rattle.slots.proofs.inner.deepest.Tie as tie
 
 sub-survival-at : tie.Need-sub-survival-at
 sub-survival-at c = search needs

@@ -1,4 +1,4 @@
--- `inner::fill` meets its contract. The loop's invariant is `Opening`: the entries stand for the sequences passed. Assumes nothing.
+-- `inner::fill_deepest` meets its contract. The loop's invariant is `Opening`: the entries stand for the sequences passed. Assumes nothing.
 use Prim.Native.Nat.{ℕ, _-_}
 use mathlib.Core.Path.{_≡_, sym, ap, _∙_}
 use mathlib.Core.Bool.{Bool}
@@ -6,11 +6,11 @@ use native.Mathlib.Omega.{arith}
 use lib.ListN.{length}
 use denote.Ref.{now}
 use Rattle.heap.specs.Heap.{candidate}
 use Rattle.slots.specs.Slots.{downFrom}
 use Rattle.slots.proofs.Stacked.{Opening, opening-start, opening-more, opening-none, opening-end}
 use borrow.Author.Needs.{needs}
-use Rattle.trim.proofs.inner.fill.Statement.{statement}
-use Rattle.trim.proofs.inner.fill.Tie as tie
+use Rattle.slots.proofs.inner.fill_deepest.Statement.{statement}
+use Rattle.slots.proofs.inner.fill_deepest.Tie as tie
 
 abbrev Inv-loop : tie.InvT-loop
 Inv-loop chains widths rank₀ seq₀ m₀ k₀ rank seq m k = Opening downFrom chains widths rank₀ seq₀ rank seq m k
@@ -79,8 +79,8 @@ returns c =
     let at = c .before .loop in
     (omega (arith, at .inv .few, at .inv .passed), opening-end (at .inv) (c .loop-test .left))
 
-pub fill-spec : {M : Type 1} → statement M
-fill-spec =
+pub fill-deepest-spec : {M : Type 1} → statement M
+fill-deepest-spec =
     tie.close
     (tie.spec
     Inv-loop

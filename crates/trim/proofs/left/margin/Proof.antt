@@ -1,9 +1,9 @@
--- `inner::margin` meets its contract. Assumes nothing.
+-- `left::margin` meets its contract. Assumes nothing.
 use mathlib.Core.Path.{_≡_, refl}
 use Rattle.trim.specs.Ragged.{marginOf}
 use borrow.Author.Needs.{needs}
-use Rattle.trim.proofs.inner.margin.Statement.{statement}
-use Rattle.trim.proofs.inner.margin.Tie as tie
+use Rattle.trim.proofs.left.margin.Statement.{statement}
+use Rattle.trim.proofs.left.margin.Tie as tie
 
 mul-result : tie.Need-mul-result
 mul-result c = search needs
