@@ -122,7 +122,7 @@ type GateCall = unsafe extern "C" fn(
 pub const SLOTS: usize = 64;
 
 /// The words of a planner's storage.
-const ROOM: usize = 18_307;
+const ROOM: usize = 18_308;
 
 /// The most seconds that are held.
 pub const SECONDS: usize = 4_096;

@@ -1,12 +1,11 @@
 -- Each way out of the calls, over plain variables. Assumes nothing.
 use mathlib.Core.Path.{_≡_, refl, sym, _∙_}
-use mathlib.Core.Bool.{false}
 use mathlib.Core.List.{List, _++_}
 use Prim.Native.Nat.{ℕ, suc, _+_, _-_, _≤_, _<_}
 use native.Mathlib.Numerals.{add-one}
 use native.Mathlib.Omega.{arith}
-use borrow.Author.Tests.{ltb-false, lt-ltb, le-ltb, eq-eqb, ne-eqb, eqb-false}
-use lib.Dec.{ltb, eqb}
+use borrow.Author.Tests.{ltb-false, lt-ltb, le-ltb, eq-eqb, ne-eqb}
+use lib.Dec.{ltb}
 use lib.Ieee.{Float, binary64, ofBits}
 use lib.ListN.{length, getD, set, drop, replicate, length-replicate, replicate-append-replicate}
 use lib.Seq.{drop-cons, set-at, append-snoc}
@@ -117,13 +116,7 @@ module _ (ws : List ℕ) where
       rw (e, drop-cons ws i 0 h, set-at (replicate i 0) (getD ws i 0) (drop (suc i) ws) 0 i (length-replicate {A = ℕ} i 0), ← replicate-append-replicate {A = ℕ} i 1 0, add-one)
       (sym (append-snoc (replicate i 0) 0 (drop (suc i) ws)))
 
--- ---- one of two, and a refusal or what is done
-
-pub first-fits : (x y first r : ℕ) → first ≡ x → first ≡ 0 → r ≡ y → r ≡ orElse x y
-first-fits x y first r e z q = rw (← e, eq-eqb first 0 z) q
-
-pub first-refused : (x y first : ℕ) → first ≡ x → (first ≡ 0 → ⊥) → first ≡ orElse x y
-first-refused x y first e z = let n : eqb x 0 ≡ false = rw e at (ne-eqb first 0 z) in rw n e
+-- ---- a refusal, or what is done
 
 pub unless-done : (x r : ℕ) (ws after last : List ℕ) → r ≡ x → r ≡ 0 → last ≡ after → (Done, last) ≡ unless x ws after
 unless-done x r ws after last e z l = rw (← e, eq-eqb r 0 z, l)
@@ -131,20 +124,30 @@ unless-done x r ws after last e z l = rw (← e, eq-eqb r 0 z, l)
 pub unless-refused : (x r : ℕ) (ws after : List ℕ) → r ≡ x → (r ≡ 0 → ⊥) → (Refused r, ws) ≡ unless x ws after
 unless-refused x r ws after e z = rw (← e, ne-eqb r 0 z)
 
--- ---- where nothing is refused there is room
+-- the first of two refusals
+pub unless-first : (x y r : ℕ) (ws after : List ℕ) → r ≡ x → (r ≡ 0 → ⊥) → (Refused r, ws) ≡ unless (orElse x y) ws after
+unless-first x y r ws after e z = rw (← e, ne-eqb r 0 z) (rw (ne-eqb r 0 z))
 
-module _ (ws : List ℕ) (t : ℕ) where
-  pub step-room : (r : ℕ) → r ≡ stepJudged ws t → r ≡ 0 → room ≤ length ws
+module _ (ws : List ℕ) where
+  pub plain-short : (t : ℕ) (after : List ℕ) → length ws < room → (Refused 16, ws) ≡ unless (stepJudged ws t) ws after
   unfolding stepJudged
-  step-room r e z = by-test (ltb (length ws) room)
+  plain-short t after h = rw (lt-ltb (length ws) room h)
+
+  -- where nothing is refused there is room
+  pub worker-room : (a b r : ℕ) → r ≡ workerJudged ws a b → r ≡ 0 → room ≤ length ws
+  unfolding workerJudged
+  worker-room a b r e z = by-test (ltb (length ws) room)
       (λ l. let q : r ≡ 16 = e ∙ rw l in absurd (omega arith))
       (λ l. ltb-false (length ws) room l)
 
-  pub both-room : (a b r : ℕ) → r ≡ orElse (workerJudged ws a b) (stepJudged ws t) → r ≡ 0 → room ≤ length ws
+  -- nothing is refused for the worker
+  pub unless-then : (a b t r : ℕ) (after : List ℕ) (x : Answer × List ℕ) → r ≡ workerJudged ws a b → r ≡ 0 → x ≡ unless (stepRefusal ws t) ws after
+      → x ≡ unless (orElse (workerJudged ws a b) (stepJudged ws t)) ws after
   unfolding stepJudged
-  both-room a b r e z = by-test (eqb (workerJudged ws a b) 0)
-      (λ l. step-room r (e ∙ rw l) z)
-      (λ l. let q : r ≡ workerJudged ws a b = e ∙ rw l in absurd (eqb-false (workerJudged ws a b) 0 l (sym q ∙ z)))
+  unless-then a b t r after x e z h =
+      let n : workerJudged ws a b ≡ 0 = sym e ∙ z in
+      let long : room ≤ length ws = worker-room a b r e z in
+      rw (n, le-ltb (length ws) room long) h
 
 -- ---- a plan, by what it makes of a worker's record
 

@@ -9,9 +9,11 @@ use crate::answer::Found;
 use crate::answer::Stall;
 use ledger_rows::layout::ROOM;
 ghost use mathlib.Core.Path.{_≡_};
-ghost use Rattle.ledger_rows.specs.Layout.{available, secondsHeld, workersHeld};
+ghost use Prim.Native.Nat.{_≤_};
+ghost use lib.ListN.{length};
+ghost use Rattle.ledger_rows.specs.Layout.{room, available, secondsHeld, workersHeld};
 ghost use Rattle.ledger_workers.specs.Workers.{pastOf};
-ghost use Rattle.ledger_acts.specs.Acts.{plainDone, decidedDone};
+ghost use Rattle.ledger_acts.specs.Acts.{stepRefusal, plainDone, decidedDone};
 ghost use Rattle.ledger.specs.Calls.{stepJudged, workerJudged, orElse, unless, recorded, collected, withdrawn, emptied, countOf, workerOf, seriesRead, dayFigure};
 
 pub mod answer;
@@ -51,25 +53,53 @@ pub fn judge_worker(storage: &[u64], a: u64, b: u64) -> u64
     ledger_acts::inner::worker_refusal(storage, a, b)
 }
 
-// What a plan of a worker is refused for, the first of 16, 17, 18 and 19, or 0.
-fn judge_both(storage: &[u64], second: u64, a: u64, b: u64) -> u64
-    ensures { λ r. ⌜ r ≡ orElse (workerJudged (now (storage .entry)) a b) (stepJudged (now (storage .entry)) second) ⌝ }
-{
-    let first = judge_worker(storage, a, b);
-    if first == 0 {
-        judge_step(storage, second)
-    } else {
-        first
-    }
-}
-
-// A plan of no worker.
+// A plan of no worker. Its second is searched for once, to judge and to act.
 fn record_plain(storage: &mut [u64], second: u64, drafts: u64, sequences: u64) -> Answer
     ensures { λ r. ⌜ (r, now (storage .exit)) ≡ unless (stepJudged (now (storage .entry)) second) (now (storage .entry)) (plainDone (now (storage .entry)) second drafts sequences) ⌝ }
 {
-    let refusal = judge_step(storage, second);
+    if storage.len() < ROOM {
+        return Answer::Refused(16);
+    }
+    let found = ledger_seconds::inner::place(storage, second);
+    let refusal = ledger_acts::inner::place_refusal(storage, found);
     if refusal == 0 {
-        ledger_acts::inner::act_plain(storage, second, drafts, sequences);
+        ledger_acts::inner::act_plain(storage, found, second, drafts, sequences);
+        Answer::Done
+    } else {
+        Answer::Refused(refusal)
+    }
+}
+
+// A plan whose worker is not refused. Its second is searched for once, to judge and to act.
+fn record_step(
+    storage: &mut [u64],
+    second: u64,
+    drafts: u64,
+    sequences: u64,
+    a: u64,
+    b: u64,
+    width: u64,
+    rounds: u64,
+    stall: u64,
+) -> Answer
+    requires { ⌜ room ≤ length (now storage) ⌝ }
+    ensures { λ r. ⌜ (r, now (storage .exit)) ≡ unless (stepRefusal (now (storage .entry)) second) (now (storage .entry)) (decidedDone (now (storage .entry)) second drafts sequences a b width rounds stall (pastOf (now (storage .entry)) a b)) ⌝ }
+{
+    let found = ledger_seconds::inner::place(storage, second);
+    let refusal = ledger_acts::inner::place_refusal(storage, found);
+    if refusal == 0 {
+        ledger_acts::inner::act_decided(
+            storage,
+            found,
+            second,
+            drafts,
+            sequences,
+            a,
+            b,
+            width,
+            rounds,
+            stall,
+        );
         Answer::Done
     } else {
         Answer::Refused(refusal)
@@ -90,9 +120,9 @@ fn record_decided(
 ) -> Answer
     ensures { λ r. ⌜ (r, now (storage .exit)) ≡ unless (orElse (workerJudged (now (storage .entry)) a b) (stepJudged (now (storage .entry)) second)) (now (storage .entry)) (decidedDone (now (storage .entry)) second drafts sequences a b width rounds stall (pastOf (now (storage .entry)) a b)) ⌝ }
 {
-    let refusal = judge_both(storage, second, a, b);
+    let refusal = judge_worker(storage, a, b);
     if refusal == 0 {
-        ledger_acts::inner::act_decided(
+        record_step(
             storage,
             second,
             drafts,
@@ -102,8 +132,7 @@ fn record_decided(
             width,
             rounds,
             stall,
-        );
-        Answer::Done
+        )
     } else {
         Answer::Refused(refusal)
     }

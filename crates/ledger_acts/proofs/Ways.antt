@@ -3,33 +3,46 @@ use mathlib.Core.Path.{_≡_}
 use mathlib.Core.Bool.{true, false}
 use mathlib.Core.List.{List}
 use Prim.Native.Nat.{ℕ, _+_, _-_, _≤_, _<_}
+use native.Mathlib.Omega.{arith}
 use borrow.Author.Tests.{lt-ltb, le-ltb}
 use lib.ListN.{getD}
 use Rattle.ledger_rows.specs.declared.layout.Place.{Place}
 use Rattle.ledger_rows.specs.declared.layout.Past.{Past}
-use Rattle.ledger_rows.specs.Layout.{secondsMost, workersMost, stepsMost, secondAt}
+use Rattle.ledger_rows.specs.Layout.{secondsMost, workersMost, stepsMost, secondAt, secondsHeld}
 use Rattle.ledger_seconds.specs.Seconds.{secondPlace, stepAdded}
+use Rattle.ledger_seconds.proofs.Ways.{second-in, second-rows}
 use Rattle.ledger_workers.specs.Workers.{workerPlace, pastOf, workerPut}
 use Rattle.ledger_changes.specs.Changes.{ten, pushed}
-use Rattle.ledger_acts.specs.Acts.{stepRefusal, workerRefusal, plainDone, decidedDone, collectedDone}
+use Rattle.ledger_acts.specs.Acts.{placeRefusal, stepRefusal, workerRefusal, plainDone, decidedDone, collectedDone}
 
-module _ (ws : List ℕ) (t : ℕ) where
-  module _ (p : Place) (is : p ≡ secondPlace ws t) where
-    pub step-fits : (n : ℕ) → p .known ≡ true → n ≡ getD ws (secondAt (p .row) + 3) 0 → n < stepsMost → 0 ≡ stepRefusal ws t
-    unfolding stepRefusal
-    step-fits n k e h = rw (← is, k, ← e, lt-ltb n stepsMost h)
+module _ (ws : List ℕ) (p : Place) where
+  pub step-fits : (n : ℕ) → p .known ≡ true → n ≡ getD ws (secondAt (p .row) + 3) 0 → n < stepsMost → 0 ≡ placeRefusal ws p
+  unfolding placeRefusal
+  step-fits n k e h = rw (k, ← e, lt-ltb n stepsMost h)
 
-    pub step-busy : (n : ℕ) → p .known ≡ true → n ≡ getD ws (secondAt (p .row) + 3) 0 → stepsMost ≤ n → 19 ≡ stepRefusal ws t
-    unfolding stepRefusal
-    step-busy n k e h = rw (← is, k, ← e, le-ltb n stepsMost h)
+  pub step-busy : (n : ℕ) → p .known ≡ true → n ≡ getD ws (secondAt (p .row) + 3) 0 → stepsMost ≤ n → 19 ≡ placeRefusal ws p
+  unfolding placeRefusal
+  step-busy n k e h = rw (k, ← e, le-ltb n stepsMost h)
 
-    pub step-new : p .known ≡ false → p .rows < secondsMost → 0 ≡ stepRefusal ws t
-    unfolding stepRefusal
-    step-new k h = rw (← is, k, lt-ltb (p .rows) secondsMost h)
+  pub step-new : p .known ≡ false → p .rows < secondsMost → 0 ≡ placeRefusal ws p
+  unfolding placeRefusal
+  step-new k h = rw (k, lt-ltb (p .rows) secondsMost h)
 
-    pub step-full : p .known ≡ false → secondsMost ≤ p .rows → 18 ≡ stepRefusal ws t
-    unfolding stepRefusal
-    step-full k h = rw (← is, k, le-ltb (p .rows) secondsMost h)
+  pub step-full : p .known ≡ false → secondsMost ≤ p .rows → 18 ≡ placeRefusal ws p
+  unfolding placeRefusal
+  step-full k h = rw (k, le-ltb (p .rows) secondsMost h)
+
+module _ (ws : List ℕ) (t : ℕ) (p : Place) (is : p ≡ secondPlace ws t) where
+  -- a known second's place is a row
+  pub known-row : p .known ≡ true → p .row < secondsMost
+  known-row k =
+      let inside : p .row < p .rows = second-in ws t p is k in
+      let many : p .rows ≡ secondsHeld ws = second-rows ws t p is in
+      omega arith
+
+  pub step-is : (r : ℕ) → r ≡ placeRefusal ws p → r ≡ stepRefusal ws t
+  unfolding stepRefusal
+  step-is r e = rw (← is) e
 
 module _ (ws : List ℕ) (a b : ℕ) where
   module _ (p : Place) (is : p ≡ workerPlace ws a b) where
@@ -56,7 +69,7 @@ unfolding collectedDone
 collect-done ws a b width rounds stall one last e l = rw (l, e)
 
 pub decided-done : (ws : List ℕ) (t drafts sequences a b width rounds stall : ℕ) (p : Past) (one two last : List ℕ)
-    → p ≡ pastOf ws a b → one ≡ workerPut ws a b width rounds stall → two ≡ stepAdded one t drafts sequences
+    → p ≡ pastOf ws a b → one ≡ stepAdded ws t drafts sequences → two ≡ workerPut one a b width rounds stall
     → last ≡ pushed two (ten t drafts sequences 1 (p .kind) a b (p .width) (p .rounds) (p .stall))
     → last ≡ decidedDone ws t drafts sequences a b width rounds stall (pastOf ws a b)
 unfolding decidedDone

@@ -4,6 +4,7 @@ use mathlib.Core.List.{List}
 use Prim.Native.Nat.{ℕ, _+_}
 use lib.Dec.{ltb}
 use lib.ListN.{getD}
+use Rattle.ledger_rows.specs.declared.layout.Place.{Place}
 use Rattle.ledger_rows.specs.declared.layout.Past.{Past}
 use Rattle.ledger_rows.specs.Layout.{secondsMost, workersMost, stepsMost, secondAt}
 use Rattle.ledger_seconds.specs.Seconds.{secondPlace, stepAdded}
@@ -11,11 +12,14 @@ use Rattle.ledger_workers.specs.Workers.{workerPlace, workerPut}
 use Rattle.ledger_changes.specs.Changes.{ten, pushed}
 
 -- 19: the second has as many steps as there may be; 18: it is new and as many seconds are held as there may be
+unfoldable pub placeRefusal : List ℕ → Place → ℕ
+placeRefusal ws p =
+    cond (p .known)
+    (cond (ltb (getD ws (secondAt (p .row) + 3) 0) stepsMost) 0 19)
+    (cond (ltb (p .rows) secondsMost) 0 18)
+
 unfoldable pub stepRefusal : List ℕ → ℕ → ℕ
-stepRefusal ws t =
-    cond (secondPlace ws t .known)
-    (cond (ltb (getD ws (secondAt (secondPlace ws t .row) + 3) 0) stepsMost) 0 19)
-    (cond (ltb (secondPlace ws t .rows) secondsMost) 0 18)
+stepRefusal ws t = placeRefusal ws (secondPlace ws t)
 
 -- 17: the worker is new and as many are held as there may be
 unfoldable pub workerRefusal : List ℕ → ℕ → ℕ → ℕ
@@ -28,7 +32,7 @@ plainDone ws t drafts sequences = pushed (stepAdded ws t drafts sequences) (ten 
 -- a plan of a worker: its record is put too, and the one from before is kept with the change
 unfoldable pub decidedDone : List ℕ → ℕ → ℕ → ℕ → ℕ → ℕ → ℕ → ℕ → ℕ → Past → List ℕ
 decidedDone ws t drafts sequences a b width rounds stall past =
-    pushed (stepAdded (workerPut ws a b width rounds stall) t drafts sequences)
+    pushed (workerPut (stepAdded ws t drafts sequences) a b width rounds stall)
     (ten t drafts sequences 1 (past .kind) a b (past .width) (past .rounds) (past .stall))
 
 -- a collection: the stall is cleared, and the record from before is kept with the change

@@ -1,20 +1,22 @@
 // What a plan and a collection are refused for, and what they do once nothing is refused. Callers keep the storage long enough.
+use ledger_rows::layout::Place;
 use ledger_rows::layout::SECONDS_MOST;
 use ledger_rows::layout::STEPS_MOST;
 use ledger_rows::layout::WORKERS_MOST;
 ghost use mathlib.Core.Path.{_≡_};
-ghost use Prim.Native.Nat.{_≤_};
+ghost use mathlib.Core.Bool.{true};
+ghost use Prim.Native.Nat.{_≤_, _<_};
 ghost use lib.ListN.{length};
-ghost use Rattle.ledger_rows.specs.Layout.{room};
+ghost use Rattle.ledger_rows.specs.Layout.{room, secondsMost};
+ghost use Rattle.ledger_seconds.specs.Seconds.{secondPlace};
 ghost use Rattle.ledger_workers.specs.Workers.{pastOf};
-ghost use Rattle.ledger_acts.specs.Acts.{stepRefusal, workerRefusal, plainDone, decidedDone, collectedDone};
+ghost use Rattle.ledger_acts.specs.Acts.{placeRefusal, stepRefusal, workerRefusal, plainDone, decidedDone, collectedDone};
 
-// What a step at `second` is refused for: 18 or 19, or 0.
-pub fn step_refusal(storage: &[u64], second: u64) -> u64
-    requires { ⌜ room ≤ length (now storage) ⌝ }
-    ensures { λ r. ⌜ r ≡ stepRefusal (now (storage .entry)) second ⌝ }
+// What a step of a second whose place was found is refused for: 18 or 19, or 0.
+pub fn place_refusal(storage: &[u64], found: Place) -> u64
+    requires { ⌜ (found .known ≡ true → found .row < secondsMost) × (room ≤ length (now storage)) ⌝ }
+    ensures { λ r. ⌜ r ≡ placeRefusal (now (storage .entry)) found ⌝ }
 {
-    let found = ledger_seconds::inner::place(storage, second);
     let row = found.row;
     if found.known {
         if ledger_seconds::inner::steps(storage, row) < STEPS_MOST {
@@ -25,6 +27,15 @@ pub fn step_refusal(storage: &[u64], second: u64) -> u64
     } else {
         if found.rows < SECONDS_MOST { 0 } else { 18 }
     }
+}
+
+// What a step at `second` is refused for: 18 or 19, or 0.
+pub fn step_refusal(storage: &[u64], second: u64) -> u64
+    requires { ⌜ room ≤ length (now storage) ⌝ }
+    ensures { λ r. ⌜ r ≡ stepRefusal (now (storage .entry)) second ⌝ }
+{
+    let found = ledger_seconds::inner::place(storage, second);
+    place_refusal(storage, found)
 }
 
 // What a worker's record is refused for: 17, or 0.
@@ -40,19 +51,20 @@ pub fn worker_refusal(storage: &[u64], a: u64, b: u64) -> u64
     }
 }
 
-// A plan of no worker done: its step is added, and the change is kept.
-pub fn act_plain(storage: &mut [u64], second: u64, drafts: u64, sequences: u64)
-    requires { ⌜ room ≤ length (now storage) ⌝ }
+// A plan of no worker done, its second's place being found: its step is added, and the change is kept.
+pub fn act_plain(storage: &mut [u64], found: Place, second: u64, drafts: u64, sequences: u64)
+    requires { ⌜ (found ≡ secondPlace (now storage) second) × (room ≤ length (now storage)) ⌝ }
     ensures { λ _. ⌜ now (storage .exit) ≡ plainDone (now (storage .entry)) second drafts sequences ⌝ }
 {
     let change = [second, drafts, sequences, 1, 0, 0, 0, 0, 0, 0];
-    ledger_seconds::inner::add_step(storage, second, drafts, sequences);
+    ledger_seconds::inner::add_step(storage, found, second, drafts, sequences);
     ledger_changes::inner::push(storage, &change);
 }
 
-// A plan of a worker done: its record is put, its step is added, and the change is kept with the record from before.
+// A plan of a worker done, its second's place being found: its step is added, its record is put, and the change is kept with the record from before.
 pub fn act_decided(
     storage: &mut [u64],
+    found: Place,
     second: u64,
     drafts: u64,
     sequences: u64,
@@ -62,7 +74,7 @@ pub fn act_decided(
     rounds: u64,
     stall: u64,
 )
-    requires { ⌜ room ≤ length (now storage) ⌝ }
+    requires { ⌜ (found ≡ secondPlace (now storage) second) × (room ≤ length (now storage)) ⌝ }
     ensures { λ _. ⌜ now (storage .exit) ≡ decidedDone (now (storage .entry)) second drafts sequences a b width rounds stall (pastOf (now (storage .entry)) a b) ⌝ }
 {
     let past = ledger_workers::inner::past(storage, a, b);
@@ -78,8 +90,8 @@ pub fn act_decided(
         past.rounds,
         past.stall,
     ];
+    ledger_seconds::inner::add_step(storage, found, second, drafts, sequences);
     ledger_workers::inner::put(storage, a, b, width, rounds, stall);
-    ledger_seconds::inner::add_step(storage, second, drafts, sequences);
     ledger_changes::inner::push(storage, &change);
 }
 

@@ -1,14 +1,13 @@
-// The newest changes, the newest first, each with what it takes to take it back.
+// The newest changes, each in its slot with what it takes to take it back. The slots stand in a ring: the newest change goes over the oldest.
 use ledger_rows::inner;
 use ledger_rows::layout::CHANGE;
 use ledger_rows::layout::CHANGES;
 use ledger_rows::layout::CHANGES_MOST;
-use ledger_rows::layout::OLDEST;
 ghost use mathlib.Core.Path.{_≡_};
-ghost use Prim.Native.Nat.{_<_, _≤_};
-ghost use lib.ListN.{length};
-ghost use Rattle.ledger_rows.specs.Layout.{room, changeWide, available};
-ghost use Rattle.ledger_changes.specs.Changes.{pushed, popped, stepBack, recordBack, workerBack};
+ghost use Prim.Native.Nat.{_+_, _<_, _≤_, min};
+ghost use lib.ListN.{length, set};
+ghost use Rattle.ledger_rows.specs.Layout.{room, changesMost, changeWide, workersFrom, available, nextSlot};
+ghost use Rattle.ledger_changes.specs.Changes.{following, newestSlot, newestAt, pushed, popped, stepBack, recordBack, workerBack};
 
 // The number of withdrawals available: at most CHANGES_MOST, whatever the word says.
 pub fn kept(words: &[u64]) -> usize
@@ -19,28 +18,87 @@ pub fn kept(words: &[u64]) -> usize
     if n < CHANGES_MOST { n } else { CHANGES_MOST }
 }
 
+// The slot of the next change: the last at most, whatever the word says.
+fn next_slot(words: &[u64]) -> usize
+    requires { ⌜ room ≤ length (now words) ⌝ }
+    ensures { λ r. ⌜ r ≡ nextSlot (now (words .entry)) ⌝ }
+{
+    let slot = words[3] as usize;
+    if slot < CHANGES_MOST {
+        slot
+    } else {
+        CHANGES_MOST - 1
+    }
+}
+
+// One withdrawal more, up to CHANGES_MOST.
+fn one_more(before: usize) -> usize
+    requires { ⌜ before ≤ changesMost ⌝ }
+    ensures { λ r. ⌜ r ≡ min (before + 1) changesMost ⌝ }
+{
+    if before < CHANGES_MOST {
+        before + 1
+    } else {
+        CHANGES_MOST
+    }
+}
+
+// The slot after one; the first comes after the last.
+fn slot_after(slot: usize) -> usize
+    requires { ⌜ slot < changesMost ⌝ }
+    ensures { λ r. ⌜ r ≡ following slot ⌝ }
+{
+    let next = slot + 1;
+    if next < CHANGES_MOST { next } else { 0 }
+}
+
+// The slot of the newest change.
+fn newest_slot(words: &[u64]) -> usize
+    requires { ⌜ room ≤ length (now words) ⌝ }
+    ensures { λ r. ⌜ (r ≡ newestSlot (now (words .entry))) × (r < changesMost) ⌝ }
+{
+    let next = next_slot(words);
+    if 0 < next { next - 1 } else { CHANGES_MOST - 1 }
+}
+
+// Where the newest change starts.
+fn newest_at(words: &[u64]) -> usize
+    requires { ⌜ room ≤ length (now words) ⌝ }
+    ensures { λ r. ⌜ (r ≡ newestAt (now (words .entry))) × (r + changeWide ≤ workersFrom) ⌝ }
+{
+    CHANGES + CHANGE * newest_slot(words)
+}
+
+// The withdrawals available and the slot of the next change written down.
+fn note(words: &mut [u64], left: usize, slot: usize)
+    requires { ⌜ room ≤ length (now words) ⌝ }
+    ensures { λ _. ⌜ now (words .exit) ≡ set (set (now (words .entry)) 2 left) 3 slot ⌝ }
+{
+    words[2] = left as u64;
+    words[3] = slot as u64;
+}
+
 // A change kept as the newest; the oldest of CHANGES_MOST falls out.
 pub fn push(words: &mut [u64], change: &[u64])
     requires { ⌜ (length (now change) ≡ changeWide) × (room ≤ length (now words)) ⌝ }
     ensures { λ _. ⌜ now (words .exit) ≡ pushed (now (words .entry)) (now (change .entry)) ⌝ }
 {
-    let before = kept(words);
-    inner::put_in(words, CHANGES, OLDEST, change);
-    if before < CHANGES_MOST {
-        words[2] = (before + 1) as u64;
-    } else {
-        words[2] = CHANGES_MOST as u64;
-    }
+    let left = one_more(kept(words));
+    let slot = next_slot(words);
+    let next = slot_after(slot);
+    inner::put(words, CHANGES + CHANGE * slot, change);
+    note(words, left, next);
 }
 
-// The newest of `before` changes no longer kept.
+// The newest of `before` changes no longer kept: its slot is free, and the next change's.
 pub fn pop(words: &mut [u64], before: usize)
     requires { ⌜ (0 < before) × (room ≤ length (now words)) ⌝ }
     ensures { λ _. ⌜ now (words .exit) ≡ popped (now (words .entry)) before ⌝ }
 {
+    let slot = newest_slot(words);
     let free = [0u64; CHANGE];
-    inner::take_out(words, CHANGES, OLDEST, &free);
-    words[2] = (before - 1) as u64;
+    inner::put(words, CHANGES + CHANGE * slot, &free);
+    note(words, before - 1, slot);
 }
 
 // The newest change's step taken back, if it has one.
@@ -48,23 +106,24 @@ pub fn step_back(words: &mut [u64])
     requires { ⌜ room ≤ length (now words) ⌝ }
     ensures { λ _. ⌜ now (words .exit) ≡ stepBack (now (words .entry)) ⌝ }
 {
-    let second = words[3];
-    let drafts = words[4];
-    let sequences = words[5];
-    if words[6] == 1 {
+    let at = newest_at(words);
+    let second = words[at];
+    let drafts = words[at + 1];
+    let sequences = words[at + 2];
+    if words[at + 3] == 1 {
         ledger_seconds::inner::remove_step(words, second, drafts, sequences);
     }
 }
 
-// The newest change's worker put back to the record that it had, if it had one.
-fn record_back(words: &mut [u64], a: u64, b: u64)
-    requires { ⌜ room ≤ length (now words) ⌝ }
-    ensures { λ _. ⌜ now (words .exit) ≡ recordBack (now (words .entry)) a b ⌝ }
+// The change at `at`: its worker put back to the record that it had, if it had one.
+fn record_back(words: &mut [u64], at: usize, a: u64, b: u64)
+    requires { ⌜ (at + changeWide ≤ workersFrom) × (room ≤ length (now words)) ⌝ }
+    ensures { λ _. ⌜ now (words .exit) ≡ recordBack (now (words .entry)) at a b ⌝ }
 {
-    let width = words[10];
-    let rounds = words[11];
-    let stall = words[12];
-    if words[7] == 2 {
+    let width = words[at + 7];
+    let rounds = words[at + 8];
+    let stall = words[at + 9];
+    if words[at + 4] == 2 {
         ledger_workers::inner::put(words, a, b, width, rounds, stall);
     }
 }
@@ -74,11 +133,12 @@ pub fn worker_back(words: &mut [u64])
     requires { ⌜ room ≤ length (now words) ⌝ }
     ensures { λ _. ⌜ now (words .exit) ≡ workerBack (now (words .entry)) ⌝ }
 {
-    let a = words[8];
-    let b = words[9];
-    if words[7] == 1 {
+    let at = newest_at(words);
+    let a = words[at + 5];
+    let b = words[at + 6];
+    if words[at + 4] == 1 {
         ledger_workers::inner::drop_worker(words, a, b);
     } else {
-        record_back(words, a, b);
+        record_back(words, at, a, b);
     }
 }

@@ -3,7 +3,7 @@ use mathlib.Core.Path.{_≡_, ap, _∙_}
 use mathlib.Core.List.{List}
 use mathlib.Core.Option.{Option}
 use Prim.Native.Nat.{ℕ, _≤_}
-use lib.ListN.{length, drop, take}
+use lib.ListN.{length, drop}
 use Rattle.ledger.specs.declared.answer.Answer.{Answer}
 use Rattle.ledger.specs.declared.answer.Stall.{Stall}
 use Rattle.ledger.specs.declared.answer.Decision.the-variants.{Nothing, Put}
@@ -11,7 +11,7 @@ use Rattle.ledger_rows.specs.Layout.{room, secondsHeld, workersHeld, available}
 use Rattle.ledger_workers.specs.Workers.{pastOf}
 use Rattle.ledger.specs.Calls.{emptied, recorded, collected, withdrawn}
 use Rattle.ledger_laws.specs.Model.{Worker, Switching, Plan, recordOf, secondsOf, workersOf, Call, plan, decide, back, Standing, refusal, after, nothingStands, Small, InDomain}
-use Rattle.ledger_laws.specs.Encode.{secondsGiven, workersGiven, logged, pastFrom, encode}
+use Rattle.ledger_laws.specs.Encode.{secondsGiven, workersGiven, pastFrom, newestOf, encode}
 use Rattle.ledger_laws.specs.Run.{recordIn, run}
 use Rattle.ledger_laws.proofs.Given.{seconds-ascend, workers-ascend, length-seconds, length-workers}
 use Rattle.ledger_laws.proofs.Laid.{held-seconds, held-workers}
@@ -36,11 +36,11 @@ pub record Kept (s : Standing) (ws : List ℕ) : Type 0 where
 
 seconds-count : (s : Standing) (rest : List ℕ) → Reached s → secondsHeld (encode s rest) ≡ secondsOf (s .changes)
 unfolding encode
-seconds-count s rest r = held-seconds (length (workersGiven (s .changes))) (s .left) (take (s .left) (logged (s .changes))) (workersGiven (s .changes)) rest 0 (secondsGiven (s .changes)) (fit-seconds (s .changes) (r .sound)) (seconds-ascend (s .changes)) ∙ length-seconds (s .changes)
+seconds-count s rest r = held-seconds (length (workersGiven (s .changes))) (newestOf s) (workersGiven (s .changes)) rest 0 (secondsGiven (s .changes)) (fit-seconds (s .changes) (r .sound)) (seconds-ascend (s .changes)) ∙ length-seconds (s .changes)
 
 workers-count : (s : Standing) (rest : List ℕ) → Reached s → workersHeld (encode s rest) ≡ workersOf (s .changes)
 unfolding encode
-workers-count s rest r = held-workers (length (secondsGiven (s .changes))) (s .left) (take (s .left) (logged (s .changes))) (secondsGiven (s .changes)) rest (0, 0) (workersGiven (s .changes)) (fit-workers (s .changes) (r .sound)) (workers-ascend (s .changes)) ∙ length-workers (s .changes)
+workers-count s rest r = held-workers (length (secondsGiven (s .changes))) (newestOf s) (secondsGiven (s .changes)) rest (0, 0) (workersGiven (s .changes)) (fit-workers (s .changes) (r .sound)) (workers-ascend (s .changes)) ∙ length-workers (s .changes)
 
 kept : (s : Standing) (rest : List ℕ) → Reached s → Kept s (encode s rest)
 kept s rest r = record {

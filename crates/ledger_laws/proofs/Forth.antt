@@ -1,7 +1,7 @@
 -- Plans and collections on words that hold what stands: each call answers by the rules, and leaves the words of what then stands. Assumes nothing.
 use mathlib.Core.Path.{_≡_, refl, sym, ap, _∙_}
 use mathlib.Core.Bool.{true, cond}
-use mathlib.Core.List.{List, _∷_}
+use mathlib.Core.List.{List, [], _∷_}
 use mathlib.Core.Logic.{⊎-elim}
 use mathlib.Core.Option.{Option, none, some}
 use Prim.Native.Nat.{ℕ, suc, _+_, _-_, _≤_, _<_, min}
@@ -22,16 +22,17 @@ use Rattle.ledger.specs.declared.answer.Stall.the-variants.{Seconds}
 use Rattle.ledger.specs.declared.answer.Decision.the-variants.{Nothing, Put}
 use Rattle.ledger_rows.specs.Layout.{room, secondsMost, workersMost, changesMost, stepsMost, secondWide, workerWide, changeWide}
 use Rattle.ledger_seconds.specs.Seconds.{stepAdded}
-use Rattle.ledger_workers.specs.Workers.{workerLess, workerSame, pastOf}
+use Rattle.ledger_workers.specs.Workers.{workerLess, workerSame, pastOf, workerPut}
 use Rattle.ledger_changes.specs.Changes.{ten, pushed}
 use Rattle.ledger_acts.specs.Acts.{plainDone, decidedDone, collectedDone}
 use Rattle.ledger.specs.Calls.{stepJudged, workerJudged, orElse, recorded, collectedOf, collected}
 use Rattle.ledger_laws.specs.Model.{Worker, Switching, Plan, Change, planned, decided, cleared, Sums, sumsAt, cleaned, recordOf, stepRule, workerRule, plan, decide, collect, Standing, refusal, stands, step, Small}
-use Rattle.ledger_laws.specs.Encode.{addPlan, secondsGiven, cleanAt, workersGiven, before as earlier, logged, secondWords, workerWords, changeWords, pastFrom, noChange, laid, encode}
+use Rattle.ledger_laws.specs.Encode.{addPlan, secondsGiven, cleanAt, workersGiven, before as earlier, logged, secondWords, workerWords, changeWords, pastFrom, noChange, Newest, slotOf, newestOf, laid, encode}
 use Rattle.ledger_laws.specs.Run.{recordFrom, recordIn}
 use Rattle.ledger_laws.proofs.Given.{seconds-ascend, workers-ascend, heldSums, at-seconds, at-workers, length-seconds, length-workers, held-test, Sound, rule-steps, rule-seconds, rule-workers, few-seconds, few-workers, Fair, fair}
 use Rattle.ledger_laws.proofs.WordWays.{judged-step, judged-worker, refused-step, refused-worker}
 use Rattle.ledger_laws.proofs.Laid.{wide-second, wide-worker, wide-change, read-second, place-second, place-worker, pushed-change}
+use Rattle.ledger_laws.proofs.Ring.{length-around, following-inside}
 use Rattle.ledger_laws.proofs.Steps.{Room, added, put, past}
 
 -- what holds of every standing that calls within the bounds reach
@@ -42,14 +43,14 @@ pub record Reached (s : Standing) : Type 0 where
 
 -- ---- there is room
 
-roomy : (n m k : ℕ) (log : List (Change × Option Switching)) (workers : List (Worker × Switching)) (seconds : List (ℕ × Sums)) (rest : List ℕ) → room ≤ length (laid n m k log workers seconds rest)
+roomy : (n m : ℕ) (ring : Newest) (workers : List (Worker × Switching)) (seconds : List (ℕ × Sums)) (rest : List ℕ) → room ≤ length (laid n m ring workers seconds rest)
 unfolding laid
-roomy n m k log workers seconds rest =
-    rw (length-append, length-flat changeWords changeWide wide-change, length-pad, length-append, length-flat workerWords workerWide wide-worker, length-pad, length-append, length-flat secondWords secondWide wide-second, length-pad) (omega arith)
+roomy n m ring workers seconds rest =
+    rw (length-append, length-flat changeWords changeWide wide-change, length-around, length-pad, length-append, length-flat workerWords workerWide wide-worker, length-pad, length-append, length-flat secondWords secondWide wide-second, length-pad) (omega arith)
 
 pub wide-enough : (s : Standing) (rest : List ℕ) → room ≤ length (encode s rest)
 unfolding encode
-wide-enough s rest = roomy (length (secondsGiven (s .changes))) (length (workersGiven (s .changes))) (s .left) (take (s .left) (logged (s .changes))) (workersGiven (s .changes)) (secondsGiven (s .changes)) rest
+wide-enough s rest = roomy (length (secondsGiven (s .changes))) (length (workersGiven (s .changes))) (newestOf s) (workersGiven (s .changes)) (secondsGiven (s .changes)) rest
 
 pub fit-seconds : (cs : List Change) → Sound cs → length (secondsGiven cs) ≤ secondsMost
 fit-seconds cs s = rw (length-seconds cs) (few-seconds cs s)
@@ -76,8 +77,8 @@ module _ (s : Standing) (rest : List ℕ) (r : Reached s) where
       let o : Option Sums = heldSums (sumsAt t cs) in
       judged-step E t (wide-enough s rest)
       ∙ refused-step E t (before ltb eqb t (secondsGiven cs)) (length (secondsGiven cs)) (isHeld o) (sumsAt t cs .steps)
-      (place-second (length (workersGiven cs)) (s .left) (take (s .left) (logged cs)) (workersGiven cs) rest t (secondsGiven cs) (fit-seconds cs (r .sound)) (seconds-ascend cs) o (at-seconds t cs))
-      (λ q. read-second (length (secondsGiven cs)) (length (workersGiven cs)) (s .left) (take (s .left) (logged cs)) (workersGiven cs) rest t (secondsGiven cs) (fit-seconds cs (r .sound)) (sumsAt t cs) (held-some t (sym (held-test (sumsAt t cs)) ∙ q)) 3 (omega arith))
+      (place-second (length (workersGiven cs)) (newestOf s) (workersGiven cs) rest t (secondsGiven cs) (fit-seconds cs (r .sound)) (seconds-ascend cs) o (at-seconds t cs))
+      (λ q. read-second (length (secondsGiven cs)) (length (workersGiven cs)) (newestOf s) (workersGiven cs) rest t (secondsGiven cs) (fit-seconds cs (r .sound)) (sumsAt t cs) (held-some t (sym (held-test (sumsAt t cs)) ∙ q)) 3 (omega arith))
       ∙ rw (held-test (sumsAt t cs), length-seconds cs)
 
   by-worker-rule : (w : Worker) → workerJudged E (w .0) (w .1) ≡ workerRule w cs
@@ -85,15 +86,20 @@ module _ (s : Standing) (rest : List ℕ) (r : Reached s) where
   by-worker-rule w =
       judged-worker E (w .0) (w .1) (wide-enough s rest)
       ∙ refused-worker E (w .0) (w .1) (before workerLess workerSame w (workersGiven cs)) (length (workersGiven cs)) (isHeld (recordOf w cs))
-      (place-worker (length (secondsGiven cs)) (s .left) (take (s .left) (logged cs)) (secondsGiven cs) rest w (workersGiven cs) (fit-workers cs (r .sound)) (workers-ascend cs) (recordOf w cs) (at-workers w cs))
+      (place-worker (length (secondsGiven cs)) (newestOf s) (secondsGiven cs) rest w (workersGiven cs) (fit-workers cs (r .sound)) (workers-ascend cs) (recordOf w cs) (at-workers w cs))
       ∙ rw (length-workers cs)
 
   -- a worker's record is read as its own standing changes give it
   pub record-read : (w : Worker) → pastOf E (w .0) (w .1) ≡ pastFrom (recordOf w cs)
   unfolding encode
-  record-read w = past (length (secondsGiven cs)) (s .left) (take (s .left) (logged cs)) (secondsGiven cs) rest w (workersGiven cs) (fit-workers cs (r .sound)) (workers-ascend cs) (recordOf w cs) (at-workers w cs)
+  record-read w = past (length (secondsGiven cs)) (newestOf s) (secondsGiven cs) rest w (workersGiven cs) (fit-workers cs (r .sound)) (workers-ascend cs) (recordOf w cs) (at-workers w cs)
 
 -- ---- the changes kept
+
+pub slot-inside : (cs : List Change) → slotOf cs < changesMost
+unfolding slotOf
+slot-inside [] = omega arith
+slot-inside (c ∷ cs) = following-inside (slotOf cs)
 
 slots-more : (e : Change × Option Switching) (u left : ℕ) (q : Change × Option Switching) (log : List (Change × Option Switching)) → left ≤ suc u
     → q ∷ pad e u (take left log) ≡ pad e (suc u) (take (min (left + 1) (suc u)) (q ∷ log))
@@ -113,63 +119,63 @@ kept-more left q log h = slots-more noChange (changesMost - 1) left q log h
 
 -- ---- a plan
 
-room-for : (p : Plan) (cs : List Change) (m k : ℕ) (log : List (Change × Option Switching)) (workers : List (Worker × Switching)) (rest : List ℕ) → Small p → stepRule (p .second) cs ≡ 0 → Sound cs
-    → Room m k log workers rest p (secondsGiven cs) (heldSums (sumsAt (p .second) cs))
+room-for : (p : Plan) (cs : List Change) (m : ℕ) (ring : Newest) (workers : List (Worker × Switching)) (rest : List ℕ) → Small p → stepRule (p .second) cs ≡ 0 → Sound cs
+    → Room m ring workers rest p (secondsGiven cs) (heldSums (sumsAt (p .second) cs))
 unfolding Room heldSums
-room-for p cs m k log workers rest small e sound =
+room-for p cs m ring workers rest small e sound =
     let f : Fair (sumsAt (p .second) cs) = fair (p .second) cs sound in
     let h : sumsAt (p .second) cs .steps < stepsMost = rule-steps (p .second) cs e in
     by-test (ltb 0 (sumsAt (p .second) cs .steps))
     (λ l. rw l (omega (arith, f .drafts-few, small .drafts-small), omega (arith, f .sequences-few, small .sequences-small), omega arith))
     (λ l. rw l (rw (length-seconds cs) (rule-seconds (p .second) cs e l)))
 
-plan-added : (p : Plan) (cs : List Change) (m k : ℕ) (log : List (Change × Option Switching)) (workers : List (Worker × Switching)) (rest : List ℕ) → Small p → stepRule (p .second) cs ≡ 0 → Sound cs
-    → stepAdded (laid (length (secondsGiven cs)) m k log workers (secondsGiven cs) rest) (p .second) (p .drafts) (p .sequences) ≡ laid (length (addPlan p (secondsGiven cs))) m k log workers (addPlan p (secondsGiven cs)) rest
-plan-added p cs m k log workers rest small e sound = added m k log workers rest p (secondsGiven cs) (fit-seconds cs sound) (seconds-ascend cs) (heldSums (sumsAt (p .second) cs)) (at-seconds (p .second) cs) (room-for p cs m k log workers rest small e sound)
+plan-added : (p : Plan) (cs : List Change) (m : ℕ) (ring : Newest) (workers : List (Worker × Switching)) (rest : List ℕ) → Small p → stepRule (p .second) cs ≡ 0 → Sound cs
+    → stepAdded (laid (length (secondsGiven cs)) m ring workers (secondsGiven cs) rest) (p .second) (p .drafts) (p .sequences) ≡ laid (length (addPlan p (secondsGiven cs))) m ring workers (addPlan p (secondsGiven cs)) rest
+plan-added p cs m ring workers rest small e sound = added m ring workers rest p (secondsGiven cs) (fit-seconds cs sound) (seconds-ascend cs) (heldSums (sumsAt (p .second) cs)) (at-seconds (p .second) cs) (room-for p cs m ring workers rest small e sound)
 
 -- the words after a plan of no worker
 plain-done : (p : Plan) (s : Standing) (rest : List ℕ) → Reached s → Small p → stepRule (p .second) (s .changes) ≡ 0
     → plainDone (encode s rest) (p .second) (p .drafts) (p .sequences) ≡ encode (stands (planned p) s) rest
-unfolding plainDone encode secondsGiven workersGiven logged earlier changeWords
+unfolding plainDone encode slotOf secondsGiven workersGiven logged earlier changeWords
 plain-done p s rest r small e =
     let cs : List Change = s .changes in
-    ap (λ (l : List ℕ). pushed l (ten (p .second) (p .drafts) (p .sequences) 1 0 0 0 0 0 0)) (plan-added p cs (length (workersGiven cs)) (s .left) (take (s .left) (logged cs)) (workersGiven cs) rest small e (r .sound))
-    ∙ pushed-change (length (addPlan p (secondsGiven cs))) (length (workersGiven cs)) (workersGiven cs) (addPlan p (secondsGiven cs)) rest (s .left) (planned p, none) (take (s .left) (logged cs))
-    (take (min (s .left + 1) changesMost) ((planned p, none) ∷ logged cs)) (r .few) (kept-more (s .left) (planned p, none) (logged cs) (r .few))
+    ap (λ (l : List ℕ). pushed l (ten (p .second) (p .drafts) (p .sequences) 1 0 0 0 0 0 0)) (plan-added p cs (length (workersGiven cs)) (newestOf s) (workersGiven cs) rest small e (r .sound))
+    ∙ pushed-change (length (addPlan p (secondsGiven cs))) (length (workersGiven cs)) (workersGiven cs) (addPlan p (secondsGiven cs)) rest (s .left) (slotOf cs) (planned p, none) (take (s .left) (logged cs))
+    (take (min (s .left + 1) changesMost) ((planned p, none) ∷ logged cs)) (r .few) (slot-inside cs) (kept-more (s .left) (planned p, none) (logged cs) (r .few))
 
 -- the words after a plan of a worker
 decided-done : (p : Plan) (w : Worker) (f : Option Switching → Switching) (s : Standing) (rest : List ℕ) → Reached s → Small p → workerRule w (s .changes) ≡ 0 → stepRule (p .second) (s .changes) ≡ 0
     → decidedDone (encode s rest) (p .second) (p .drafts) (p .sequences) (w .0) (w .1) (f (recordOf w (s .changes)) .width) (f (recordOf w (s .changes)) .rounds) (f (recordOf w (s .changes)) .stall) (pastFrom (recordOf w (s .changes)))
     ≡ encode (stands (decided p w f) s) rest
-unfolding decidedDone encode secondsGiven workersGiven logged earlier changeWords
+unfolding decidedDone encode slotOf secondsGiven workersGiven logged earlier changeWords
 decided-done p w f s rest r small g e =
     let cs : List Change = s .changes in
     let q : Change × Option Switching = (decided p w f, recordOf w cs) in
-    let log : List (Change × Option Switching) = take (s .left) (logged cs) in
+    let seconds : List (ℕ × Sums) = addPlan p (secondsGiven cs) in
     let workers : List (Worker × Switching) = putAt workerLess workerSame w (f (recordOf w cs)) (workersGiven cs) in
     let words : List ℕ = ten (p .second) (p .drafts) (p .sequences) 1 (pastFrom (recordOf w cs) .kind) (w .0) (w .1) (pastFrom (recordOf w cs) .width) (pastFrom (recordOf w cs) .rounds) (pastFrom (recordOf w cs) .stall) in
     rw (at-workers w cs)
-    (ap (λ (l : List ℕ). pushed (stepAdded l (p .second) (p .drafts) (p .sequences)) words)
-    (put (length (secondsGiven cs)) (s .left) log (secondsGiven cs) rest w (workersGiven cs) (fit-workers cs (r .sound)) (workers-ascend cs) (f (recordOf w cs)) (recordOf w cs) (at-workers w cs) (λ l. rw (length-workers cs) (rule-workers w cs g l)))
-    ∙ ap (λ (l : List ℕ). pushed l words) (plan-added p cs (length workers) (s .left) log workers rest small e (r .sound))
-    ∙ pushed-change (length (addPlan p (secondsGiven cs))) (length workers) workers (addPlan p (secondsGiven cs)) rest (s .left) q log
-    (take (min (s .left + 1) changesMost) (q ∷ logged cs)) (r .few) (kept-more (s .left) q (logged cs) (r .few)))
+    (ap (λ (l : List ℕ). pushed (workerPut l (w .0) (w .1) (f (recordOf w cs) .width) (f (recordOf w cs) .rounds) (f (recordOf w cs) .stall)) words)
+    (plan-added p cs (length (workersGiven cs)) (newestOf s) (workersGiven cs) rest small e (r .sound))
+    ∙ ap (λ (l : List ℕ). pushed l words)
+    (put (length seconds) (newestOf s) seconds rest w (workersGiven cs) (fit-workers cs (r .sound)) (workers-ascend cs) (f (recordOf w cs)) (recordOf w cs) (at-workers w cs) (λ l. rw (length-workers cs) (rule-workers w cs g l)))
+    ∙ pushed-change (length seconds) (length workers) workers seconds rest (s .left) (slotOf cs) q (take (s .left) (logged cs))
+    (take (min (s .left + 1) changesMost) (q ∷ logged cs)) (r .few) (slot-inside cs) (kept-more (s .left) q (logged cs) (r .few)))
 
 -- the words after a collection
 cleared-done : (w : Worker) (o : Switching) (s : Standing) (rest : List ℕ) → Reached s → recordOf w (s .changes) ≡ some o
     → collectedDone (encode s rest) (w .0) (w .1) (pastFrom (some o)) ≡ encode (stands (cleared w) s) rest
-unfolding collectedDone encode secondsGiven workersGiven logged earlier changeWords cleanAt
+unfolding collectedDone encode slotOf secondsGiven workersGiven logged earlier changeWords cleanAt
 cleared-done w o s rest r e =
     let cs : List Change = s .changes in
     let q : Change × Option Switching = (cleared w, some o) in
-    let log : List (Change × Option Switching) = take (s .left) (logged cs) in
     let held : at workerLess workerSame w (workersGiven cs) ≡ some o = at-workers w cs ∙ e in
     let workers : List (Worker × Switching) = putAt workerLess workerSame w (cleaned o) (workersGiven cs) in
     rw (held, e)
     (ap (λ (l : List ℕ). pushed l (ten 0 0 0 0 2 (w .0) (w .1) (o .width) (o .rounds) (o .stall)))
-    (put (length (secondsGiven cs)) (s .left) log (secondsGiven cs) rest w (workersGiven cs) (fit-workers cs (r .sound)) (workers-ascend cs) (cleaned o) (some o) held (λ l. absurd (not-both true refl l)))
-    ∙ pushed-change (length (secondsGiven cs)) (length workers) workers (secondsGiven cs) rest (s .left) q log
-    (take (min (s .left + 1) changesMost) (q ∷ logged cs)) (r .few) (kept-more (s .left) q (logged cs) (r .few)))
+    (put (length (secondsGiven cs)) (newestOf s) (secondsGiven cs) rest w (workersGiven cs) (fit-workers cs (r .sound)) (workers-ascend cs) (cleaned o) (some o) held (λ l. absurd (not-both true refl l)))
+    ∙ pushed-change (length (secondsGiven cs)) (length workers) workers (secondsGiven cs) rest (s .left) (slotOf cs) q (take (s .left) (logged cs))
+    (take (min (s .left + 1) changesMost) (q ∷ logged cs)) (r .few) (slot-inside cs) (kept-more (s .left) q (logged cs) (r .few)))
 
 -- ---- what each call answers and leaves
 

@@ -1,27 +1,28 @@
 -- What the words' operations do to words that hold lists of seconds, of workers and of changes. Assumes nothing.
-use mathlib.Core.Path.{_≡_, refl, ap}
+use mathlib.Core.Path.{_≡_, refl, sym, ap, _∙_}
 use mathlib.Core.Bool.{false}
-use mathlib.Core.List.{List, [], _∷_, _++_, append-assoc}
+use mathlib.Core.List.{List, [], _∷_, _++_, append-assoc, reverse}
 use mathlib.Core.Option.{Option, none, some}
 use Prim.Native.Nat.{ℕ, suc, _+_, _-_, _≤_, _<_, min}
-use native.Mathlib.Nat.{min-eq-left}
+use native.Mathlib.Nat.{le-refl, min-eq-left}
 use native.Mathlib.Numerals.{sub-one}
 use native.Mathlib.Omega.{arith}
 use lib.Dec.{ltb, eqb}
-use lib.ListN.{length, getD, set, length-append}
+use lib.ListN.{length, getD, set, take, drop, length-append}
 use Rattle.ledger_rows.specs.Words.{stored, opened, closed}
 use Rattle.ledger_rows.specs.Map.{at, putAt, without, Ascending, isHeld, before}
 use Rattle.ledger_rows.specs.Table.{flat, pad, table, placed}
 use Rattle.ledger_rows.proofs.Tests.{not-both}
-use Rattle.ledger_rows.proofs.Tables.{length-pad, length-flat, word, word-at, key-at, pushed-row, popped-row}
+use Rattle.ledger_rows.proofs.Tables.{length-pad, pad-full, pad-last, pad-snoc, length-flat, word, word-at, key-at, stored-row}
 use Rattle.ledger_rows.proofs.Keyed.{found, found-last, known, putting, dropping, reading}
-use Rattle.ledger_rows.specs.Layout.{secondsMost, workersMost, changesMost, secondAt, workerAt, secondsHeld, workersHeld, available, secondWide, workerWide, changeWide, changesFrom, workersFrom, secondsFrom, oldest}
+use Rattle.ledger_rows.specs.Layout.{secondsMost, workersMost, changesMost, secondAt, workerAt, secondsHeld, workersHeld, available, nextSlot, secondWide, workerWide, changeWide, changeAt, changesFrom, workersFrom, secondsFrom}
 use Rattle.ledger_seconds.specs.Seconds.{earlierSecond, thatSecond, secondRow, secondPlace}
 use Rattle.ledger_workers.specs.Workers.{workerLess, workerSame, earlierWorker, thatWorker, workerRow, workerPlace}
-use Rattle.ledger_changes.specs.Changes.{pushed, popped}
+use Rattle.ledger_changes.specs.Changes.{following, preceding, newestSlot, newestAt, pushed, popped}
 use Rattle.ledger_laws.specs.Model.{Worker, Switching, Change, planned, decided, cleared, Sums}
-use Rattle.ledger_laws.specs.Encode.{secondWords, workerWords, changeWords, noSecond, noWorker, noChange, laid}
+use Rattle.ledger_laws.specs.Encode.{secondWords, workerWords, changeWords, noSecond, noWorker, noChange, Newest, around, ringWords, laid}
 use Rattle.ledger_laws.proofs.Orders.{second-order, worker-order}
+use Rattle.ledger_laws.proofs.Ring.{length-around, before-slot, around-next, around-newest, following-inside, preceding-following}
 
 pub wide-second : (r : ℕ × Sums) → length (secondWords r) ≡ secondWide
 wide-second r = refl
@@ -38,21 +39,21 @@ wide-change (cleared w, some r) = refl
 
 -- ---- the seconds
 
-module _ (n m k : ℕ) (log : List (Change × Option Switching)) (workers : List (Worker × Switching)) (rest : List ℕ) where
+module _ (n m : ℕ) (ring : Newest) (workers : List (Worker × Switching)) (rest : List ℕ) where
   abbrev L : List (ℕ × Sums) → List ℕ
-  L seconds = laid n m k log workers seconds rest
+  L seconds = laid n m ring workers seconds rest
 
   -- the words before the seconds
   unfoldable A : List ℕ
-  A = n ∷ m ∷ k ∷ (flat changeWords (pad noChange changesMost log) ++ flat workerWords (pad noWorker workersMost workers))
+  A = n ∷ m ∷ ring .left ∷ ring .slot ∷ (ringWords ring ++ flat workerWords (pad noWorker workersMost workers))
 
   long : length A ≡ secondsFrom
   unfolding A
-  long = rw (length-append, length-flat changeWords changeWide wide-change, length-flat workerWords workerWide wide-worker, length-pad, length-pad)
+  long = rw (length-append, length-flat changeWords changeWide wide-change, length-flat workerWords workerWide wide-worker, length-around, length-pad, length-pad)
 
   as-seconds : (seconds : List (ℕ × Sums)) → L seconds ≡ table secondWords noSecond A secondsMost seconds rest
   unfolding laid A
-  as-seconds seconds = rw (append-assoc (flat changeWords (pad noChange changesMost log)))
+  as-seconds seconds = rw (append-assoc (ringWords ring))
 
   -- a row's second, and its words
   module _ (seconds : List (ℕ × Sums)) (fits : length seconds ≤ secondsMost) where
@@ -96,44 +97,44 @@ module _ (n m k : ℕ) (log : List (Change × Option Switching)) (workers : List
     read-second o e j h = rw (as-seconds seconds) (reading ltb eqb second-order t secondWords noSecond secondWide wide-second A secondsFrom long secondsMost rest seconds fits o j e h)
 
 -- the count stands before them
-pub set-seconds : (n v m k : ℕ) (log : List (Change × Option Switching)) (workers : List (Worker × Switching)) (seconds : List (ℕ × Sums)) (rest : List ℕ)
-    → set (laid n m k log workers seconds rest) 0 v ≡ laid v m k log workers seconds rest
+pub set-seconds : (n v m : ℕ) (ring : Newest) (workers : List (Worker × Switching)) (seconds : List (ℕ × Sums)) (rest : List ℕ)
+    → set (laid n m ring workers seconds rest) 0 v ≡ laid v m ring workers seconds rest
 unfolding laid
-set-seconds n v m k log workers seconds rest = refl
+set-seconds n v m ring workers seconds rest = refl
 
-module _ (m k : ℕ) (log : List (Change × Option Switching)) (workers : List (Worker × Switching)) (rest : List ℕ) (t : ℕ) (seconds : List (ℕ × Sums)) (fits : length seconds ≤ secondsMost) (asc : Ascending ltb eqb seconds) where
-  pub held-seconds : secondsHeld (laid (length seconds) m k log workers seconds rest) ≡ length seconds
+module _ (m : ℕ) (ring : Newest) (workers : List (Worker × Switching)) (rest : List ℕ) (t : ℕ) (seconds : List (ℕ × Sums)) (fits : length seconds ≤ secondsMost) (asc : Ascending ltb eqb seconds) where
+  pub held-seconds : secondsHeld (laid (length seconds) m ring workers seconds rest) ≡ length seconds
   unfolding laid
   held-seconds = min-eq-left fits
 
   pub place-second : (o : Option Sums) → at ltb eqb t seconds ≡ o
-      → secondPlace (laid (length seconds) m k log workers seconds rest) t ≡ record { row = before ltb eqb t seconds; rows = length seconds; known = isHeld o }
+      → secondPlace (laid (length seconds) m ring workers seconds rest) t ≡ record { row = before ltb eqb t seconds; rows = length seconds; known = isHeld o }
   unfolding secondPlace secondRow
   place-second o e =
-      let ws : List ℕ = laid (length seconds) m k log workers seconds rest in
+      let ws : List ℕ = laid (length seconds) m ring workers seconds rest in
       rw (
         held-seconds,
-        found-last ltb eqb second-order noSecond t seconds asc (earlierSecond ws t) (early-is (length seconds) m k log workers rest t seconds fits) (thatSecond ws t) (that-is (length seconds) m k log workers rest t seconds fits),
-        known ltb eqb second-order noSecond t seconds (thatSecond ws t) (that-is (length seconds) m k log workers rest t seconds fits),
+        found-last ltb eqb second-order noSecond t seconds asc (earlierSecond ws t) (early-is (length seconds) m ring workers rest t seconds fits) (thatSecond ws t) (that-is (length seconds) m ring workers rest t seconds fits),
+        known ltb eqb second-order noSecond t seconds (thatSecond ws t) (that-is (length seconds) m ring workers rest t seconds fits),
         e,
       )
 
 -- ---- the workers
 
-module _ (n m k : ℕ) (log : List (Change × Option Switching)) (seconds : List (ℕ × Sums)) (rest : List ℕ) where
+module _ (n m : ℕ) (ring : Newest) (seconds : List (ℕ × Sums)) (rest : List ℕ) where
   abbrev W : List (Worker × Switching) → List ℕ
-  W workers = laid n m k log workers seconds rest
+  W workers = laid n m ring workers seconds rest
 
   -- the words before the workers, and behind them
   unfoldable B : List ℕ
-  B = n ∷ m ∷ k ∷ flat changeWords (pad noChange changesMost log)
+  B = n ∷ m ∷ ring .left ∷ ring .slot ∷ ringWords ring
 
   unfoldable C : List ℕ
   C = flat secondWords (pad noSecond secondsMost seconds) ++ rest
 
   broad : length B ≡ workersFrom
   unfolding B
-  broad = rw (length-flat changeWords changeWide wide-change, length-pad)
+  broad = rw (length-flat changeWords changeWide wide-change, length-around, length-pad)
 
   as-workers : (workers : List (Worker × Switching)) → W workers ≡ table workerWords noWorker B workersMost workers C
   unfolding laid B C
@@ -177,25 +178,25 @@ module _ (n m k : ℕ) (log : List (Change × Option Switching)) (seconds : List
     pub read-worker : (o : Switching) → at workerLess workerSame w workers ≡ some o → (j : ℕ) → j < workerWide → getD (W workers) (workerAt (before workerLess workerSame w workers) + j) 0 ≡ getD (workerWords (w, o)) j 0
     read-worker o e j h = rw (as-workers workers) (reading workerLess workerSame worker-order w workerWords noWorker workerWide wide-worker B workersFrom broad workersMost C workers fits o j e h)
 
-pub set-workers : (n m v k : ℕ) (log : List (Change × Option Switching)) (workers : List (Worker × Switching)) (seconds : List (ℕ × Sums)) (rest : List ℕ)
-    → set (laid n m k log workers seconds rest) 1 v ≡ laid n v k log workers seconds rest
+pub set-workers : (n m v : ℕ) (ring : Newest) (workers : List (Worker × Switching)) (seconds : List (ℕ × Sums)) (rest : List ℕ)
+    → set (laid n m ring workers seconds rest) 1 v ≡ laid n v ring workers seconds rest
 unfolding laid
-set-workers n m v k log workers seconds rest = refl
+set-workers n m v ring workers seconds rest = refl
 
-module _ (n k : ℕ) (log : List (Change × Option Switching)) (seconds : List (ℕ × Sums)) (rest : List ℕ) (w : Worker) (workers : List (Worker × Switching)) (fits : length workers ≤ workersMost) (asc : Ascending workerLess workerSame workers) where
-  pub held-workers : workersHeld (laid n (length workers) k log workers seconds rest) ≡ length workers
+module _ (n : ℕ) (ring : Newest) (seconds : List (ℕ × Sums)) (rest : List ℕ) (w : Worker) (workers : List (Worker × Switching)) (fits : length workers ≤ workersMost) (asc : Ascending workerLess workerSame workers) where
+  pub held-workers : workersHeld (laid n (length workers) ring workers seconds rest) ≡ length workers
   unfolding laid
   held-workers = min-eq-left fits
 
   pub place-worker : (o : Option Switching) → at workerLess workerSame w workers ≡ o
-      → workerPlace (laid n (length workers) k log workers seconds rest) (w .0) (w .1) ≡ record { row = before workerLess workerSame w workers; rows = length workers; known = isHeld o }
+      → workerPlace (laid n (length workers) ring workers seconds rest) (w .0) (w .1) ≡ record { row = before workerLess workerSame w workers; rows = length workers; known = isHeld o }
   unfolding workerPlace workerRow
   place-worker o e =
-      let ws : List ℕ = laid n (length workers) k log workers seconds rest in
+      let ws : List ℕ = laid n (length workers) ring workers seconds rest in
       rw (
         held-workers,
-        found workerLess workerSame worker-order noWorker w workers asc (earlierWorker ws (w .0) (w .1)) (early-worker n (length workers) k log seconds rest w workers fits),
-        known workerLess workerSame worker-order noWorker w workers (thatWorker ws (w .0) (w .1)) (that-worker n (length workers) k log seconds rest w workers fits),
+        found workerLess workerSame worker-order noWorker w workers asc (earlierWorker ws (w .0) (w .1)) (early-worker n (length workers) ring seconds rest w workers fits),
+        known workerLess workerSame worker-order noWorker w workers (thatWorker ws (w .0) (w .1)) (that-worker n (length workers) ring seconds rest w workers fits),
         e,
       )
 
@@ -206,30 +207,90 @@ module _ (n m : ℕ) (workers : List (Worker × Switching)) (seconds : List (ℕ
   unfoldable D : List ℕ
   D = flat workerWords (pad noWorker workersMost workers) ++ (flat secondWords (pad noSecond secondsMost seconds) ++ rest)
 
-  as-changes : (k : ℕ) (log : List (Change × Option Switching)) → laid n m k log workers seconds rest ≡ table changeWords noChange (n ∷ m ∷ k ∷ []) changesMost log D
+  -- the words before them
+  abbrev F : ℕ → ℕ → List ℕ
+  F left slot = n ∷ m ∷ left ∷ slot ∷ []
+
+  -- slots that are given row by row
+  abbrev T : ℕ → ℕ → List (Change × Option Switching) → List ℕ
+  T left slot rows = table changeWords noChange (F left slot) changesMost rows D
+
+  as-changes : (left slot : ℕ) (log rows : List (Change × Option Switching)) → around slot (pad noChange changesMost log) ≡ rows
+      → laid n m (record { left = left; slot = slot; log = log }) workers seconds rest ≡ T left slot rows
   unfolding laid D
-  as-changes k log = refl
+  as-changes left slot log rows e =
+      let full : pad noChange changesMost rows ≡ rows = pad-full noChange changesMost rows (rw (← e, length-around, length-pad)) in
+      rw (full, e)
 
-  pub held-changes : (k : ℕ) (log : List (Change × Option Switching)) → k ≤ changesMost → available (laid n m k log workers seconds rest) ≡ k
+  pub held-changes : (ring : Newest) → ring .left ≤ changesMost → available (laid n m ring workers seconds rest) ≡ ring .left
   unfolding laid
-  held-changes k log h = min-eq-left h
+  held-changes ring h = min-eq-left h
 
-  pub newest-word : (k : ℕ) (q : Change × Option Switching) (log : List (Change × Option Switching)) → length log < changesMost → (j : ℕ) → j < changeWide
-      → getD (laid n m k (q ∷ log) workers seconds rest) (changesFrom + j) 0 ≡ getD (changeWords q) j 0
-  newest-word k q log few j h = rw (as-changes k (q ∷ log)) (word changeWords noChange changeWide wide-change (n ∷ m ∷ k ∷ []) changesFrom refl changesMost D [] q log j few h)
+  next-is : (ring : Newest) → ring .slot < changesMost → nextSlot (laid n m ring workers seconds rest) ≡ ring .slot
+  unfolding laid
+  next-is ring h = min-eq-left (omega arith)
 
-  pub pushed-change : (k : ℕ) (q : Change × Option Switching) (log now : List (Change × Option Switching)) → k ≤ changesMost → q ∷ pad noChange (changesMost - 1) log ≡ pad noChange changesMost now
-      → pushed (laid n m k log workers seconds rest) (changeWords q) ≡ laid n m (min (k + 1) changesMost) now workers seconds rest
-  unfolding pushed laid D
-  pushed-change k q log now few e =
-      let h : opened changesFrom oldest (changeWords q) (table changeWords noChange (n ∷ m ∷ k ∷ []) changesMost log D) ≡ (n ∷ m ∷ k ∷ []) ++ (flat changeWords (q ∷ pad noChange (changesMost - 1) log) ++ D) =
-      pushed-row changeWords noChange changeWide wide-change (n ∷ m ∷ k ∷ []) changesFrom refl changesMost D (changesMost - 1) q log refl in
-      rw (held-changes k log few, h, e)
+  -- a change kept as the newest: `now` are the changes that can be withdrawn then
+  pub pushed-change : (left slot : ℕ) (q : Change × Option Switching) (log now : List (Change × Option Switching)) → left ≤ changesMost → slot < changesMost
+      → q ∷ pad noChange (changesMost - 1) log ≡ pad noChange changesMost now
+      → pushed (laid n m (record { left = left; slot = slot; log = log }) workers seconds rest) (changeWords q)
+      ≡ laid n m (record { left = min (left + 1) changesMost; slot = following slot; log = now }) workers seconds rest
+  unfolding pushed
+  pushed-change left slot q log now few inside e =
+      let Q : List (Change × Option Switching) = pad noChange (changesMost - 1) log in
+      let l : Change × Option Switching = getD (pad noChange changesMost log) (changesMost - 1) noChange in
+      let xs : List (Change × Option Switching) = reverse (take slot Q) in
+      let ys : List (Change × Option Switching) = reverse (drop slot Q) in
+      let so-many : length Q ≡ changesMost - 1 = length-pad noChange (changesMost - 1) log in
+      let newer : length xs ≡ slot = before-slot slot Q (omega arith) in
+      let before : around slot (pad noChange changesMost log) ≡ xs ++ l ∷ ys = ap (around slot) (pad-last noChange (changesMost - 1) log) ∙ around-next slot l Q (omega arith) in
+      let after : around (following slot) (pad noChange changesMost now) ≡ xs ++ q ∷ ys = ap (around (following slot)) (sym e) ∙ around-newest slot q Q so-many inside in
+      let full : length (xs ++ l ∷ ys) ≤ changesMost = rw (← before, length-around, length-pad) (le-refl changesMost) in
+      let h : stored (changeAt slot) (changeWords q) (T left slot (xs ++ l ∷ ys)) ≡ T left slot (xs ++ q ∷ ys) =
+      ap (λ (i : ℕ). stored (changeAt i) (changeWords q) (T left slot (xs ++ l ∷ ys))) (sym newer) ∙ stored-row changeWords noChange changeWide wide-change (F left slot) changesFrom refl changesMost D xs l q ys full in
+      rw (held-changes (record { left = left; slot = slot; log = log }) few, next-is (record { left = left; slot = slot; log = log }) inside, as-changes left slot log (xs ++ l ∷ ys) before, h, as-changes (min (left + 1) changesMost) (following slot) now (xs ++ q ∷ ys) after)
 
-  pub popped-change : (j : ℕ) (q : Change × Option Switching) (log : List (Change × Option Switching)) → length log ≤ changesMost - 1
-      → popped (laid n m (suc j) (q ∷ log) workers seconds rest) (suc j) ≡ laid n m j log workers seconds rest
-  unfolding popped laid D changeWords
-  popped-change j q log few =
-      let h : closed changesFrom oldest (changeWords noChange) (table changeWords noChange (n ∷ m ∷ suc j ∷ []) changesMost (q ∷ log) D) ≡ table changeWords noChange (n ∷ m ∷ suc j ∷ []) changesMost log D =
-      popped-row changeWords noChange changeWide wide-change (n ∷ m ∷ suc j ∷ []) changesFrom refl changesMost D (changesMost - 1) q log refl few in
-      rw (h, sub-one)
+  -- the newest of the changes: where it stands, its words, and it no longer kept
+  module _ (slot : ℕ) (inside : slot < changesMost) (q : Change × Option Switching) (log : List (Change × Option Switching)) (few : length log ≤ changesMost - 1) where
+    abbrev N : ℕ → List ℕ
+    N left = laid n m (record { left = left; slot = following slot; log = q ∷ log }) workers seconds rest
+
+    pub newest-is : (left : ℕ) → newestSlot (N left) ≡ slot
+    unfolding newestSlot
+    newest-is left = ap preceding (next-is (record { left = left; slot = following slot; log = q ∷ log }) (following-inside slot)) ∙ preceding-following slot inside
+
+    abbrev Q : List (Change × Option Switching)
+    Q = pad noChange (changesMost - 1) log
+
+    abbrev xs : List (Change × Option Switching)
+    xs = reverse (take slot Q)
+
+    abbrev ys : List (Change × Option Switching)
+    ys = reverse (drop slot Q)
+
+    so-many : length Q ≡ changesMost - 1
+    so-many = length-pad noChange (changesMost - 1) log
+
+    newer : length xs ≡ slot
+    newer = before-slot slot Q (rw so-many (omega arith))
+
+    newest : around (following slot) (pad noChange changesMost (q ∷ log)) ≡ xs ++ q ∷ ys
+    unfolding pad
+    newest = around-newest slot q Q so-many inside
+
+    full : length (xs ++ q ∷ ys) ≤ changesMost
+    full = rw (← newest, length-around, length-pad) (le-refl changesMost)
+
+    pub newest-word : (left j : ℕ) → j < changeWide → getD (N left) (newestAt (N left) + j) 0 ≡ getD (changeWords q) j 0
+    newest-word left j h =
+        let there : getD (T left (following slot) (xs ++ q ∷ ys)) (changeAt slot + j) 0 ≡ getD (changeWords q) j 0 =
+        ap (λ (i : ℕ). getD (T left (following slot) (xs ++ q ∷ ys)) (changeAt i + j) 0) (sym newer) ∙ word changeWords noChange changeWide wide-change (F left (following slot)) changesFrom refl changesMost D xs q ys j full h in
+        rw (newest-is left, as-changes left (following slot) (q ∷ log) (xs ++ q ∷ ys) newest) there
+
+    pub popped-change : (j : ℕ) → popped (N (suc j)) (suc j) ≡ laid n m (record { left = j; slot = slot; log = log }) workers seconds rest
+    unfolding popped changeWords
+    popped-change j =
+        let after : around slot (pad noChange changesMost log) ≡ xs ++ noChange ∷ ys = ap (around slot) (sym (pad-snoc noChange (changesMost - 1) log few)) ∙ around-next slot noChange Q (rw so-many (omega arith)) in
+        let h : stored (changeAt slot) (changeWords noChange) (T (suc j) (following slot) (xs ++ q ∷ ys)) ≡ T (suc j) (following slot) (xs ++ noChange ∷ ys) =
+        ap (λ (i : ℕ). stored (changeAt i) (changeWords noChange) (T (suc j) (following slot) (xs ++ q ∷ ys))) (sym newer) ∙ stored-row changeWords noChange changeWide wide-change (F (suc j) (following slot)) changesFrom refl changesMost D xs q noChange ys full in
+        rw (newest-is (suc j), as-changes (suc j) (following slot) (q ∷ log) (xs ++ q ∷ ys) newest, h, as-changes j slot log (xs ++ noChange ∷ ys) after, sub-one)

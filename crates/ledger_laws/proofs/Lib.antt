@@ -1,4 +1,5 @@
 pub mod Orders
+pub mod Ring
 pub mod Laid
 pub mod Given
 mod WordWays

@@ -7,7 +7,7 @@ use native.Mathlib.Omega.{arith}
 use borrow.Author.Tests.{le-ltb}
 use lib.Dec.{ltb, eqb}
 use lib.Ieee.{Float}
-use lib.ListN.{length, getD, drop, take, length-map, List·getD-map}
+use lib.ListN.{length, getD, drop, length-map, List·getD-map}
 use Rattle.ledger_rows.specs.Map.{at, Ascending}
 use Rattle.ledger_rows.specs.Layout.{room, secondWide, secondAt, secondsHeld}
 use Rattle.ledger_series.specs.Series.{meanOf, secondOf, meanDraft, meanBatch, upTo, front, figureOf}
@@ -16,7 +16,7 @@ use Rattle.ledger.specs.declared.answer.Count.the-variants.{Is}
 use Rattle.ledger.specs.declared.answer.Figure.the-variants.{Mean}
 use Rattle.ledger.specs.Calls.{emptied, seriesRead, dayFigure}
 use Rattle.ledger_laws.specs.Model.{Sums, sumsAt, Call, Standing, after, nothingStands, InDomain}
-use Rattle.ledger_laws.specs.Encode.{secondsGiven, workersGiven, logged, secondWords, noSecond, encode}
+use Rattle.ledger_laws.specs.Encode.{secondsGiven, workersGiven, secondWords, noSecond, newestOf, encode}
 use Rattle.ledger_laws.specs.Run.{run}
 use Rattle.ledger_laws.proofs.Given.{seconds-ascend, heldSums, at-seconds}
 use Rattle.ledger_laws.proofs.Laid.{row-second, row-word, held-seconds}
@@ -50,15 +50,15 @@ module _ (s : Standing) (rest : List ℕ) (r : Reached s) where
 
   held : secondsHeld E ≡ length rows
   unfolding encode
-  held = held-seconds (length (workersGiven (s .changes))) (s .left) (take (s .left) (logged (s .changes))) (workersGiven (s .changes)) rest 0 rows (fit-seconds (s .changes) (r .sound)) (seconds-ascend (s .changes))
+  held = held-seconds (length (workersGiven (s .changes))) (newestOf s) (workersGiven (s .changes)) rest 0 rows (fit-seconds (s .changes) (r .sound)) (seconds-ascend (s .changes))
 
   second-at : (i : ℕ) → i < length rows → getD E (secondAt i) 0 ≡ getD rows i noSecond .0
   unfolding encode
-  second-at i h = row-second (length rows) (length (workersGiven (s .changes))) (s .left) (take (s .left) (logged (s .changes))) (workersGiven (s .changes)) rest rows (fit-seconds (s .changes) (r .sound)) i h
+  second-at i h = row-second (length rows) (length (workersGiven (s .changes))) (newestOf s) (workersGiven (s .changes)) rest rows (fit-seconds (s .changes) (r .sound)) i h
 
   word-of : (i j : ℕ) → i < length rows → j < secondWide → getD E (secondAt i + j) 0 ≡ getD (secondWords (getD rows i noSecond)) j 0
   unfolding encode
-  word-of i j h k = row-word (length rows) (length (workersGiven (s .changes))) (s .left) (take (s .left) (logged (s .changes))) (workersGiven (s .changes)) rest rows (fit-seconds (s .changes) (r .sound)) i j h k
+  word-of i j h k = row-word (length rows) (length (workersGiven (s .changes))) (newestOf s) (workersGiven (s .changes)) rest rows (fit-seconds (s .changes) (r .sound)) i j h k
 
   -- a rule that gives each row's value gives the values in order
   all-rows : {A : Type 0} (f : ℕ → A) (g : ℕ × Sums → A) → ((i : ℕ) → i < length rows → f i ≡ g (getD rows i noSecond)) → upTo f (length rows) ≡ map g rows

@@ -15,17 +15,17 @@ use Rattle.ledger_rows.proofs.Tests.{not-both}
 use Rattle.ledger_rows.specs.Layout.{secondAt, secondsMost, workersMost}
 use Rattle.ledger_seconds.specs.Seconds.{stepAdded, stepRemoved}
 use Rattle.ledger_workers.specs.Workers.{workerLess, workerSame, pastOf, workerPut, workerDropped}
-use Rattle.ledger_laws.specs.Model.{Worker, Switching, Plan, Change, Sums, more}
-use Rattle.ledger_laws.specs.Encode.{secondWords, pastFrom, laid, firstOf, grown, addPlan}
+use Rattle.ledger_laws.specs.Model.{Worker, Switching, Plan, Sums, more}
+use Rattle.ledger_laws.specs.Encode.{secondWords, pastFrom, Newest, laid, firstOf, grown, addPlan}
 use Rattle.ledger_laws.proofs.Orders.{second-order, worker-order}
 use Rattle.ledger_laws.proofs.WordWays.{added-there, added-here, removed-there, removed-last, put-there, put-here, dropped-there, past-there, past-nowhere}
 use Rattle.ledger_laws.proofs.Laid.{stored-second, opened-second, closed-second, read-second, set-seconds, place-second, stored-worker, opened-worker, closed-worker, read-worker, set-workers, place-worker}
 
 -- ---- the seconds
 
-module _ (m k : ℕ) (log : List (Change × Option Switching)) (workers : List (Worker × Switching)) (rest : List ℕ) (p : Plan) (seconds : List (ℕ × Sums)) where
+module _ (m : ℕ) (ring : Newest) (workers : List (Worker × Switching)) (rest : List ℕ) (p : Plan) (seconds : List (ℕ × Sums)) where
   abbrev S : List (ℕ × Sums) → List ℕ
-  S rows = laid (length rows) m k log workers rows rest
+  S rows = laid (length rows) m ring workers rows rest
 
   abbrev t : ℕ
   t = p .second
@@ -54,18 +54,18 @@ module _ (m k : ℕ) (log : List (Change × Option Switching)) (workers : List (
   unfolding Room
   added fits asc none e few =
       let b : ℕ = before ltb eqb t seconds in
-      let end : laid (length seconds + 1) m k log workers (putAt ltb eqb t (firstOf p) seconds) rest ≡ S (addPlan p seconds) = rw (first-is e, longer (firstOf p) e) in
-      added-here (S seconds) t (p .drafts) (p .sequences) b (length seconds) (place-second m k log workers rest t seconds fits asc none e) few
-      ∙ ap (λ (l : List ℕ). set l 0 (length seconds + 1)) (opened-second (length seconds) m k log workers rest t seconds fits (firstOf p) e few)
-      ∙ set-seconds (length seconds) (length seconds + 1) m k log workers (putAt ltb eqb t (firstOf p) seconds) rest
+      let end : laid (length seconds + 1) m ring workers (putAt ltb eqb t (firstOf p) seconds) rest ≡ S (addPlan p seconds) = rw (first-is e, longer (firstOf p) e) in
+      added-here (S seconds) t (p .drafts) (p .sequences) b (length seconds) (place-second m ring workers rest t seconds fits asc none e) few
+      ∙ ap (λ (l : List ℕ). set l 0 (length seconds + 1)) (opened-second (length seconds) m ring workers rest t seconds fits (firstOf p) e few)
+      ∙ set-seconds (length seconds) (length seconds + 1) m ring workers (putAt ltb eqb t (firstOf p) seconds) rest
       ∙ end
   added fits asc (some u) e h =
       let b : ℕ = before ltb eqb t seconds in
-      let end : laid (length seconds) m k log workers (putAt ltb eqb t (more p u) seconds) rest ≡ S (addPlan p seconds) = rw (more-is u e, as-long u (more p u) e) in
-      added-there (S seconds) t (p .drafts) (p .sequences) b (length seconds) (place-second m k log workers rest t seconds fits asc (some u) e) (u .drafts) (u .sequences) (u .steps)
-      (read-second (length seconds) m k log workers rest t seconds fits u e 1 (omega arith)) (read-second (length seconds) m k log workers rest t seconds fits u e 2 (omega arith)) (read-second (length seconds) m k log workers rest t seconds fits u e 3 (omega arith))
+      let end : laid (length seconds) m ring workers (putAt ltb eqb t (more p u) seconds) rest ≡ S (addPlan p seconds) = rw (more-is u e, as-long u (more p u) e) in
+      added-there (S seconds) t (p .drafts) (p .sequences) b (length seconds) (place-second m ring workers rest t seconds fits asc (some u) e) (u .drafts) (u .sequences) (u .steps)
+      (read-second (length seconds) m ring workers rest t seconds fits u e 1 (omega arith)) (read-second (length seconds) m ring workers rest t seconds fits u e 2 (omega arith)) (read-second (length seconds) m ring workers rest t seconds fits u e 3 (omega arith))
       (h .0) (h .1) (h .2)
-      ∙ stored-second (length seconds) m k log workers rest t seconds fits u (more p u) e
+      ∙ stored-second (length seconds) m ring workers rest t seconds fits u (more p u) e
       ∙ end
 
   -- and taken away again
@@ -77,9 +77,9 @@ module _ (m k : ℕ) (log : List (Change × Option Switching)) (workers : List (
       let there : at ltb eqb t now ≡ some (firstOf p) = rw is (at-put ltb eqb second-order t (firstOf p) seconds) in
       let gone : without ltb eqb t now ≡ seconds = rw is (without-put ltb eqb second-order t (firstOf p) seconds e) in
       let len : length now - 1 ≡ length seconds = rw (is, longer (firstOf p) e) (omega arith) in
-      removed-last (S now) t (p .drafts) (p .sequences) b (length now) (place-second m k log workers rest t now fits asc (some (firstOf p)) there) 1 (read-second (length now) m k log workers rest t now fits (firstOf p) there 3 (omega arith)) (omega arith)
-      ∙ ap (λ (l : List ℕ). set l 0 (length now - 1)) (closed-second (length now) m k log workers rest t now fits (firstOf p) there)
-      ∙ set-seconds (length now) (length now - 1) m k log workers (without ltb eqb t now) rest
+      removed-last (S now) t (p .drafts) (p .sequences) b (length now) (place-second m ring workers rest t now fits asc (some (firstOf p)) there) 1 (read-second (length now) m ring workers rest t now fits (firstOf p) there 3 (omega arith)) (omega arith)
+      ∙ ap (λ (l : List ℕ). set l 0 (length now - 1)) (closed-second (length now) m ring workers rest t now fits (firstOf p) there)
+      ∙ set-seconds (length now) (length now - 1) m ring workers (without ltb eqb t now) rest
       ∙ rw (gone, len)
   removed-from now fits asc (some u) e is some-steps =
       let b : ℕ = before ltb eqb t now in
@@ -92,11 +92,11 @@ module _ (m k : ℕ) (log : List (Change × Option Switching)) (workers : List (
       let one : 1 ≤ u .steps = some-steps u refl in
       let two : 1 < u .steps + 1 = omega arith in
       let fields : (t ∷ (u .drafts + p .drafts - p .drafts) ∷ (u .sequences + p .sequences - p .sequences) ∷ (u .steps + 1 - 1) ∷ []) ≡ secondWords (t, u) = rw (d, s, n) in
-      removed-there (S now) t (p .drafts) (p .sequences) b (length now) (place-second m k log workers rest t now fits asc (some (more p u)) there) (u .drafts + p .drafts) (u .sequences + p .sequences) (u .steps + 1)
-      (read-second (length now) m k log workers rest t now fits (more p u) there 1 (omega arith)) (read-second (length now) m k log workers rest t now fits (more p u) there 2 (omega arith)) (read-second (length now) m k log workers rest t now fits (more p u) there 3 (omega arith))
+      removed-there (S now) t (p .drafts) (p .sequences) b (length now) (place-second m ring workers rest t now fits asc (some (more p u)) there) (u .drafts + p .drafts) (u .sequences + p .sequences) (u .steps + 1)
+      (read-second (length now) m ring workers rest t now fits (more p u) there 1 (omega arith)) (read-second (length now) m ring workers rest t now fits (more p u) there 2 (omega arith)) (read-second (length now) m ring workers rest t now fits (more p u) there 3 (omega arith))
       two
       ∙ ap (λ (l : List ℕ). stored (secondAt b) l (S now)) fields
-      ∙ stored-second (length now) m k log workers rest t now fits (more p u) u there
+      ∙ stored-second (length now) m ring workers rest t now fits (more p u) u there
       ∙ rw (back, len)
 
   pub removed : length (addPlan p seconds) ≤ secondsMost → Ascending ltb eqb (addPlan p seconds) → ((u : Sums) → at ltb eqb t seconds ≡ some u → 1 ≤ u .steps)
@@ -106,9 +106,9 @@ module _ (m k : ℕ) (log : List (Change × Option Switching)) (workers : List (
 
 -- ---- the workers
 
-module _ (n k : ℕ) (log : List (Change × Option Switching)) (seconds : List (ℕ × Sums)) (rest : List ℕ) (w : Worker) (workers : List (Worker × Switching)) where
+module _ (n : ℕ) (ring : Newest) (seconds : List (ℕ × Sums)) (rest : List ℕ) (w : Worker) (workers : List (Worker × Switching)) where
   abbrev H : List (Worker × Switching) → List ℕ
-  H rows = laid n (length rows) k log rows seconds rest
+  H rows = laid n (length rows) ring rows seconds rest
 
   one-longer : (r : Switching) → at workerLess workerSame w workers ≡ none → length (putAt workerLess workerSame w r workers) ≡ length workers + 1
   one-longer r e = length-put workerLess workerSame worker-order w r workers ∙ rw e (sym (add-one (length workers)))
@@ -121,20 +121,20 @@ module _ (n k : ℕ) (log : List (Change × Option Switching)) (seconds : List (
         → workerPut (H workers) (w .0) (w .1) (r .width) (r .rounds) (r .stall) ≡ H (putAt workerLess workerSame w r workers)
     put r none e few =
         let b : ℕ = before workerLess workerSame w workers in
-        put-here (H workers) (w .0) (w .1) b (length workers) (r .width) (r .rounds) (r .stall) (place-worker n k log seconds rest w workers fits asc none e) (few refl)
-        ∙ ap (λ (l : List ℕ). set l 1 (length workers + 1)) (opened-worker n (length workers) k log seconds rest w workers fits r e (few refl))
-        ∙ set-workers n (length workers) (length workers + 1) k log (putAt workerLess workerSame w r workers) seconds rest
+        put-here (H workers) (w .0) (w .1) b (length workers) (r .width) (r .rounds) (r .stall) (place-worker n ring seconds rest w workers fits asc none e) (few refl)
+        ∙ ap (λ (l : List ℕ). set l 1 (length workers + 1)) (opened-worker n (length workers) ring seconds rest w workers fits r e (few refl))
+        ∙ set-workers n (length workers) (length workers + 1) ring (putAt workerLess workerSame w r workers) seconds rest
         ∙ rw (one-longer r e)
     put r (some o) e few =
         let b : ℕ = before workerLess workerSame w workers in
-        put-there (H workers) (w .0) (w .1) b (length workers) (r .width) (r .rounds) (r .stall) (place-worker n k log seconds rest w workers fits asc (some o) e)
-        ∙ stored-worker n (length workers) k log seconds rest w workers fits o r e
+        put-there (H workers) (w .0) (w .1) b (length workers) (r .width) (r .rounds) (r .stall) (place-worker n ring seconds rest w workers fits asc (some o) e)
+        ∙ stored-worker n (length workers) ring seconds rest w workers fits o r e
         ∙ rw (just-as-long o r e)
 
     pub past : (o : Option Switching) → at workerLess workerSame w workers ≡ o → pastOf (H workers) (w .0) (w .1) ≡ pastFrom o
-    past none e = past-nowhere (H workers) (w .0) (w .1) (before workerLess workerSame w workers) (length workers) (place-worker n k log seconds rest w workers fits asc none e)
-    past (some o) e = past-there (H workers) (w .0) (w .1) (before workerLess workerSame w workers) (length workers) (o .width) (o .rounds) (o .stall) (place-worker n k log seconds rest w workers fits asc (some o) e)
-        (read-worker n (length workers) k log seconds rest w workers fits o e 2 (omega arith)) (read-worker n (length workers) k log seconds rest w workers fits o e 3 (omega arith)) (read-worker n (length workers) k log seconds rest w workers fits o e 4 (omega arith))
+    past none e = past-nowhere (H workers) (w .0) (w .1) (before workerLess workerSame w workers) (length workers) (place-worker n ring seconds rest w workers fits asc none e)
+    past (some o) e = past-there (H workers) (w .0) (w .1) (before workerLess workerSame w workers) (length workers) (o .width) (o .rounds) (o .stall) (place-worker n ring seconds rest w workers fits asc (some o) e)
+        (read-worker n (length workers) ring seconds rest w workers fits o e 2 (omega arith)) (read-worker n (length workers) ring seconds rest w workers fits o e 3 (omega arith)) (read-worker n (length workers) ring seconds rest w workers fits o e 4 (omega arith))
 
   -- a new worker gone again
   pub dropped : (r : Switching) → length (putAt workerLess workerSame w r workers) ≤ workersMost → Ascending workerLess workerSame (putAt workerLess workerSame w r workers) → at workerLess workerSame w workers ≡ none
@@ -144,18 +144,18 @@ module _ (n k : ℕ) (log : List (Change × Option Switching)) (seconds : List (
       let there : at workerLess workerSame w now ≡ some r = at-put workerLess workerSame worker-order w r workers in
       let gone : without workerLess workerSame w now ≡ workers = without-put workerLess workerSame worker-order w r workers e in
       let len : length now - 1 ≡ length workers = rw (one-longer r e) (omega arith) in
-      dropped-there (H now) (w .0) (w .1) (before workerLess workerSame w now) (length now) (place-worker n k log seconds rest w now fits asc (some r) there)
-      ∙ ap (λ (l : List ℕ). set l 1 (length now - 1)) (closed-worker n (length now) k log seconds rest w now fits r there)
-      ∙ set-workers n (length now) (length now - 1) k log (without workerLess workerSame w now) seconds rest
+      dropped-there (H now) (w .0) (w .1) (before workerLess workerSame w now) (length now) (place-worker n ring seconds rest w now fits asc (some r) there)
+      ∙ ap (λ (l : List ℕ). set l 1 (length now - 1)) (closed-worker n (length now) ring seconds rest w now fits r there)
+      ∙ set-workers n (length now) (length now - 1) ring (without workerLess workerSame w now) seconds rest
       ∙ rw (gone, len)
 
 -- a record put back
-pub put-back : (n k : ℕ) (log : List (Change × Option Switching)) (seconds : List (ℕ × Sums)) (rest : List ℕ) (w : Worker) (workers : List (Worker × Switching)) (r o : Switching)
+pub put-back : (n : ℕ) (ring : Newest) (seconds : List (ℕ × Sums)) (rest : List ℕ) (w : Worker) (workers : List (Worker × Switching)) (r o : Switching)
     → length (putAt workerLess workerSame w r workers) ≤ workersMost → Ascending workerLess workerSame (putAt workerLess workerSame w r workers) → at workerLess workerSame w workers ≡ some o
-    → workerPut (laid n (length (putAt workerLess workerSame w r workers)) k log (putAt workerLess workerSame w r workers) seconds rest) (w .0) (w .1) (o .width) (o .rounds) (o .stall) ≡ laid n (length workers) k log workers seconds rest
-put-back n k log seconds rest w workers r o fits asc e =
+    → workerPut (laid n (length (putAt workerLess workerSame w r workers)) ring (putAt workerLess workerSame w r workers) seconds rest) (w .0) (w .1) (o .width) (o .rounds) (o .stall) ≡ laid n (length workers) ring workers seconds rest
+put-back n ring seconds rest w workers r o fits asc e =
     let now : List (Worker × Switching) = putAt workerLess workerSame w r workers in
     let there : at workerLess workerSame w now ≡ some r = at-put workerLess workerSame worker-order w r workers in
     let back : putAt workerLess workerSame w o now ≡ workers = put-put workerLess workerSame worker-order w r o workers ∙ put-held workerLess workerSame worker-order w o workers e in
     let held : isHeld (some r) ≡ false → length now < workersMost = λ q. absurd (not-both true refl q) in
-    put n k log seconds rest w now fits asc o (some r) there held ∙ rw back
+    put n ring seconds rest w now fits asc o (some r) there held ∙ rw back

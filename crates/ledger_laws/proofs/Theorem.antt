@@ -1,7 +1,7 @@
 -- DEMAND 3: after any calls within the bounds, made from an empty planner, the words are those of what the standing changes give when worked out
 -- afresh. Assumes nothing.
 use mathlib.Core.Path.{_≡_, refl, sym, ap, _∙_}
-use mathlib.Core.List.{List, [], _∷_, _++_, append-assoc}
+use mathlib.Core.List.{List, [], _∷_, _++_, append-assoc, append-nil, reverse, reverse-cons}
 use mathlib.Core.Option.{Option}
 use Prim.Native.Nat.{ℕ, zero, suc, _+_, _*_, _-_, _≤_, zero-le, suc-le-suc}
 use native.Mathlib.Nat.{not-suc-le-zero, le-of-suc-le-suc, le-trans, min-le-left, min-le-right, mul-suc, mul-zero, add-comm}
@@ -13,12 +13,13 @@ use lib.ListN.{length, drop, replicate-append-replicate}
 use Rattle.ledger_rows.specs.Map.{isHeld}
 use Rattle.ledger_rows.specs.Table.{flat, pad}
 use Rattle.ledger_rows.proofs.Tests.{by-test}
+use Rattle.ledger_rows.proofs.Tables.{flat-append}
 use Rattle.ledger.specs.declared.answer.Answer.{Answer}
 use Rattle.ledger.specs.declared.answer.Stall.{Stall}
 use Rattle.ledger_rows.specs.Layout.{room, secondsMost, workersMost, changesMost, secondWide, workerWide, changeWide, changesFrom}
 use Rattle.ledger.specs.Calls.{orElse, zeros, emptied}
 use Rattle.ledger_laws.specs.Model.{Worker, Switching, Plan, Change, planned, decided, cleared, recordOf, stepRule, workerRule, Call, plan, decide, collect, back, Standing, refusal, stands, step, after, nothingStands, Small, InDomain}
-use Rattle.ledger_laws.specs.Encode.{secondsGiven, workersGiven, logged, secondWords, workerWords, changeWords, noSecond, noWorker, noChange, laid, encode}
+use Rattle.ledger_laws.specs.Encode.{secondsGiven, workersGiven, logged, secondWords, workerWords, changeWords, noSecond, noWorker, noChange, slotOf, around, laid, encode}
 use Rattle.ledger_laws.specs.Run.{made, run}
 use Rattle.ledger_laws.proofs.Given.{Sound}
 use Rattle.ledger_laws.proofs.Forth.{Reached, plan-made, decide-made, collect-made, first-zero, then-zero}
@@ -85,9 +86,9 @@ zeros-add : (a b : ℕ) → zeros (a + b) ≡ zeros a ++ zeros b
 unfolding zeros
 zeros-add a b = sym (replicate-append-replicate {A = ℕ} a b 0)
 
-zeros-three : (X : List ℕ) → zeros changesFrom ++ X ≡ 0 ∷ 0 ∷ 0 ∷ X
+zeros-first : (X : List ℕ) → zeros changesFrom ++ X ≡ 0 ∷ 0 ∷ 0 ∷ 0 ∷ X
 unfolding zeros
-zeros-three X = refl
+zeros-first X = refl
 
 none-zero : [] ≡ zeros 0
 unfolding zeros
@@ -111,15 +112,22 @@ unfolding flat pad
 free words e w h zero = rw (mul-zero w) none-zero
 free words e w h (suc n) = let m : w * suc n ≡ w + w * n = mul-suc w n ∙ add-comm (w * n) w in rw (m, zeros-add w (w * n), h, free words e w h n)
 
+-- also around a ring
+free-ring : {R : Type 0} (words : R → List ℕ) (e : R) (w : ℕ) → words e ≡ zeros w → (n : ℕ) → flat words (reverse (pad e n [])) ≡ zeros (w * n)
+unfolding flat pad
+free-ring words e w h zero = rw (mul-zero w) none-zero
+free-ring words e w h (suc n) =
+    rw (reverse-cons e (pad e n []), flat-append words (reverse (pad e n [])) (e ∷ []), free-ring words e w h n, append-nil, h, mul-suc w n) (sym (zeros-add (w * n) w))
+
 empty-words : (rest : List ℕ) → zeros room ++ rest ≡ encode nothingStands rest
-unfolding encode laid secondsGiven workersGiven logged changeWords
+unfolding encode laid around slotOf secondsGiven workersGiven logged changeWords
 empty-words rest =
     let c : ℕ = changeWide * changesMost in
     let w : ℕ = workerWide * workersMost in
     let s : ℕ = secondWide * secondsMost in
     let a : zeros room ≡ zeros changesFrom ++ (zeros c ++ (zeros w ++ zeros s)) =
     zeros-add changesFrom (c + (w + s)) ∙ ap (λ (l : List ℕ). zeros changesFrom ++ l) (zeros-add c (w + s) ∙ ap (λ (l : List ℕ). zeros c ++ l) (zeros-add w s)) in
-    rw (a, free changeWords noChange changeWide ten-zeros changesMost, free workerWords noWorker workerWide five-zeros workersMost, free secondWords noSecond secondWide four-zeros secondsMost) (simp append-assoc (zeros-three _))
+    rw (a, free-ring changeWords noChange changeWide ten-zeros changesMost, free workerWords noWorker workerWide five-zeros workersMost, free secondWords noSecond secondWide four-zeros secondsMost) (simp append-assoc (zeros-first _))
 
 pub reached-nothing : Reached nothingStands
 unfolding Sound

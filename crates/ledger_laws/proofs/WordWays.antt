@@ -11,8 +11,8 @@ use Rattle.ledger_rows.specs.Words.{stored, opened, closed}
 use Rattle.ledger_rows.specs.Layout.{room, secondsMost, workersMost, stepsMost, secondAt, workerAt}
 use Rattle.ledger_seconds.specs.Seconds.{secondPlace, secondRaised, secondInserted, stepAdded, secondLowered, stepRemoved}
 use Rattle.ledger_workers.specs.Workers.{workerPlace, pastAt, pastOf, workerStored, workerInserted, workerPut, workerTaken, workerDropped}
-use Rattle.ledger_changes.specs.Changes.{stepBack, recordBack, workerBack}
-use Rattle.ledger_acts.specs.Acts.{stepRefusal, workerRefusal}
+use Rattle.ledger_changes.specs.Changes.{newestAt, stepBack, recordBack, workerBack}
+use Rattle.ledger_acts.specs.Acts.{placeRefusal, stepRefusal, workerRefusal}
 use Rattle.ledger.specs.Calls.{stepJudged, workerJudged}
 
 module _ (ws : List ℕ) (t drafts sequences b n : ℕ) where
@@ -51,7 +51,7 @@ judged-worker ws a b h = rw (le-ltb (length ws) room h)
 
 pub refused-step : (ws : List ℕ) (t b n : ℕ) (known : Bool) (z : ℕ) → secondPlace ws t ≡ record { row = b; rows = n; known = known } → (known ≡ true → getD ws (secondAt b + 3) 0 ≡ z)
     → stepRefusal ws t ≡ cond known (cond (ltb z stepsMost) 0 19) (cond (ltb n secondsMost) 0 18)
-unfolding stepRefusal
+unfolding stepRefusal placeRefusal
 refused-step ws t b n true z is r = rw (is, r refl)
 refused-step ws t b n false z is r = rw is
 
@@ -85,22 +85,23 @@ module _ (ws : List ℕ) (a c b n : ℕ) where
 -- ---- the newest change taken back
 
 module _ (ws : List ℕ) where
-  pub step-plan : (x y z : ℕ) → getD ws 6 0 ≡ 1 → getD ws 3 0 ≡ x → getD ws 4 0 ≡ y → getD ws 5 0 ≡ z → stepBack ws ≡ stepRemoved ws x y z
+  pub step-plan : (x y z : ℕ) → getD ws (newestAt ws + 3) 0 ≡ 1 → getD ws (newestAt ws) 0 ≡ x → getD ws (newestAt ws + 1) 0 ≡ y → getD ws (newestAt ws + 2) 0 ≡ z → stepBack ws ≡ stepRemoved ws x y z
   unfolding stepBack
   step-plan x y z e f g h = rw (e, f, g, h)
 
-  pub step-none : getD ws 6 0 ≡ 0 → stepBack ws ≡ ws
+  pub step-none : getD ws (newestAt ws + 3) 0 ≡ 0 → stepBack ws ≡ ws
   unfolding stepBack
   step-none e = rw e
 
-  pub worker-none : getD ws 7 0 ≡ 0 → workerBack ws ≡ ws
+  pub worker-none : getD ws (newestAt ws + 4) 0 ≡ 0 → workerBack ws ≡ ws
   unfolding workerBack recordBack
   worker-none e = rw e
 
-  pub worker-new : (a b : ℕ) → getD ws 7 0 ≡ 1 → getD ws 8 0 ≡ a → getD ws 9 0 ≡ b → workerBack ws ≡ workerDropped ws a b
+  pub worker-new : (a b : ℕ) → getD ws (newestAt ws + 4) 0 ≡ 1 → getD ws (newestAt ws + 5) 0 ≡ a → getD ws (newestAt ws + 6) 0 ≡ b → workerBack ws ≡ workerDropped ws a b
   unfolding workerBack
   worker-new a b e f g = rw (e, f, g)
 
-  pub worker-old : (a b x y z : ℕ) → getD ws 7 0 ≡ 2 → getD ws 8 0 ≡ a → getD ws 9 0 ≡ b → getD ws 10 0 ≡ x → getD ws 11 0 ≡ y → getD ws 12 0 ≡ z → workerBack ws ≡ workerPut ws a b x y z
+  pub worker-old : (a b x y z : ℕ) → getD ws (newestAt ws + 4) 0 ≡ 2 → getD ws (newestAt ws + 5) 0 ≡ a → getD ws (newestAt ws + 6) 0 ≡ b
+      → getD ws (newestAt ws + 7) 0 ≡ x → getD ws (newestAt ws + 8) 0 ≡ y → getD ws (newestAt ws + 9) 0 ≡ z → workerBack ws ≡ workerPut ws a b x y z
   unfolding workerBack recordBack
   worker-old a b x y z e f g h i j = rw (e, f, g, h, i, j)

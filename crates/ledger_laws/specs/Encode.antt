@@ -1,15 +1,15 @@
 -- How what is held lies in the words. Every word is said, the free ones too, which are 0.
-use mathlib.Core.List.{List, [], _∷_, _++_}
+use mathlib.Core.List.{List, [], _∷_, _++_, reverse}
 use mathlib.Core.Option.{Option, none, some}
 use Prim.Native.Nat.{ℕ, _+_}
 use lib.Dec.{ltb, eqb}
-use lib.ListN.{length, take}
+use lib.ListN.{length, take, drop}
 use Rattle.ledger_rows.specs.Map.{at, putAt}
 use Rattle.ledger_rows.specs.Table.{flat, pad}
 use Rattle.ledger_rows.specs.declared.layout.Past.{Past}
 use Rattle.ledger_rows.specs.Layout.{secondsMost, workersMost, changesMost}
 use Rattle.ledger_workers.specs.Workers.{workerLess, workerSame}
-use Rattle.ledger_changes.specs.Changes.{ten}
+use Rattle.ledger_changes.specs.Changes.{ten, following}
 use Rattle.ledger_laws.specs.Model.{Worker, Switching, Plan, Change, planned, decided, cleared, Sums, more, nothingYet, cleaned, recordOf, Standing}
 
 -- ---- the seconds and the workers that the standing changes give, as lists that ascend
@@ -82,12 +82,34 @@ noWorker = ((0, 0), record { width = 0; rounds = 0; stall = 0 })
 abbrev pub noChange : Change × Option Switching
 noChange = (cleared (0, 0), none)
 
--- counts and tables, one after the other; `rest` is what was lent beyond the room
-unfoldable pub laid : ℕ → ℕ → ℕ → List (Change × Option Switching) → List (Worker × Switching) → List (ℕ × Sums) → List ℕ → List ℕ
-laid n m k log workers seconds rest =
-    n ∷ m ∷ k ∷ (flat changeWords (pad noChange changesMost log) ++ (flat workerWords (pad noWorker workersMost workers) ++ (flat secondWords (pad noSecond secondsMost seconds) ++ rest)))
+-- ---- the newest changes, in a ring
+
+-- how many can be withdrawn, the slot of the next change, and the changes that can be withdrawn, the newest first
+pub record Newest : Type 0 where
+  pub left : ℕ
+  pub slot : ℕ
+  pub log : List (Change × Option Switching)
+
+-- the slot of the next change: the first where nothing stands, and one further around the ring for each change that stands
+unfoldable pub slotOf : List Change → ℕ
+slotOf [] = 0
+slotOf (c ∷ cs) = following (slotOf cs)
+
+abbrev pub newestOf : Standing → Newest
+newestOf s = record { left = s .left; slot = slotOf (s .changes); log = take (s .left) (logged (s .changes)) }
+
+-- rows in slots around a ring: they stand backwards from the slot before `slot`, the first of them there, and go on in the last slot when the first is taken
+unfoldable pub around : {R : Type 0} → ℕ → List R → List R
+around slot rows = reverse (take slot rows) ++ reverse (drop slot rows)
+
+abbrev pub ringWords : Newest → List ℕ
+ringWords ring = flat changeWords (around (ring .slot) (pad noChange changesMost (ring .log)))
+
+-- counts, the next slot and tables, one after the other; `rest` is what was lent beyond the room
+unfoldable pub laid : ℕ → ℕ → Newest → List (Worker × Switching) → List (ℕ × Sums) → List ℕ → List ℕ
+laid n m ring workers seconds rest =
+    n ∷ m ∷ ring .left ∷ ring .slot ∷ (ringWords ring ++ (flat workerWords (pad noWorker workersMost workers) ++ (flat secondWords (pad noSecond secondsMost seconds) ++ rest)))
 
 -- all the words of what stands
 unfoldable pub encode : Standing → List ℕ → List ℕ
-encode s rest =
-    laid (length (secondsGiven (s .changes))) (length (workersGiven (s .changes))) (s .left) (take (s .left) (logged (s .changes))) (workersGiven (s .changes)) (secondsGiven (s .changes)) rest
+encode s rest = laid (length (secondsGiven (s .changes))) (length (workersGiven (s .changes))) (newestOf s) (workersGiven (s .changes)) (secondsGiven (s .changes)) rest

@@ -1,4 +1,4 @@
--- How the words of the storage lie: three counts (seconds, workers, changes), the newest changes, the workers, the seconds.
+-- How the words of the storage lie: three counts (seconds, workers, changes), the slot of the next change, the newest changes, the workers, the seconds.
 use Prim.Native.Nat.{ℕ, _+_, _-_, _^_, min}
 use mathlib.Core.List.{List}
 use lib.ListN.{getD}
@@ -29,7 +29,7 @@ changeWide = 10
 
 -- where the changes, the workers and the seconds start, and where row i of each starts
 abbrev pub changesFrom : ℕ
-changesFrom = 3
+changesFrom = 4
 
 abbrev pub changeAt : ℕ → ℕ
 changeAt i = rowAt changeWide changesFrom i
@@ -46,10 +46,6 @@ secondsFrom = workerAt workersMost
 abbrev pub secondAt : ℕ → ℕ
 secondAt i = rowAt secondWide secondsFrom i
 
--- where the oldest change that can be withdrawn stands
-abbrev pub oldest : ℕ
-oldest = changeAt (changesMost - 1)
-
 -- the words that a planner takes
 abbrev pub room : ℕ
 room = secondAt secondsMost
@@ -63,6 +59,10 @@ workersHeld ws = min (getD ws 1 0) workersMost
 
 abbrev pub available : List ℕ → ℕ
 available ws = min (getD ws 2 0) changesMost
+
+-- the slot of the next change: the last at most, whatever the word says
+abbrev pub nextSlot : List ℕ → ℕ
+nextSlot ws = min (getD ws 3 0) (changesMost - 1)
 
 -- a sum that stops at the largest word
 abbrev pub plus : ℕ → ℕ → ℕ

@@ -1,4 +1,4 @@
-// How the words of the storage lie: three counts (seconds, workers, changes), the newest changes, the workers, the seconds.
+// How the words of the storage lie: three counts (seconds, workers, changes), the slot of the next change, the newest changes, the workers, the seconds.
 
 // How many there are at most: seconds held, workers held, changes that can be withdrawn, steps in a second.
 pub const SECONDS_MOST: usize = 4096;
@@ -16,10 +16,8 @@ pub const WORKER: usize = 5;
 
 pub const CHANGE: usize = 10;
 
-// Where the newest changes start and where the oldest of them stands; where the workers and the seconds start.
-pub const CHANGES: usize = 3;
-
-pub const OLDEST: usize = CHANGES + CHANGE * (CHANGES_MOST - 1);
+// Where the newest changes, the workers and the seconds start.
+pub const CHANGES: usize = 4;
 
 pub const WORKERS: usize = CHANGES + CHANGE * CHANGES_MOST;
 

@@ -9,7 +9,7 @@ ghost use mathlib.Core.Bool.{cond, false};
 ghost use Prim.Native.Nat.{_+_, _-_, _≤_, _<_};
 ghost use lib.Dec.{ltb};
 ghost use lib.ListN.{length, getD};
-ghost use Rattle.ledger_rows.specs.Words.{searched, lastFirst};
+ghost use Rattle.ledger_rows.specs.Words.{searched};
 ghost use Rattle.ledger_rows.specs.Layout.{room, secondWide, secondsMost, secondsHeld, secondAt, plus};
 ghost use Rattle.ledger_seconds.specs.Seconds.{earlierSecond, thatSecond, secondPlace, secondRaised, secondInserted, stepAdded, secondLowered, stepRemoved};
 
@@ -24,7 +24,8 @@ pub fn held(words: &[u64]) -> usize
     if n < SECONDS_MOST { n } else { SECONDS_MOST }
 }
 
-// How many of the first `rows` seconds are earlier than `second`: a search by halves.
+// How many of the first `rows` seconds are earlier than `second`: a search by halves. The step is added up once for both numbers, so that the test
+// is compiled to a choice of numbers and not to a branch, which a processor would guess wrongly every other time.
 fn count_earlier(words: &[u64], rows: usize, second: u64) -> usize
     requires { ⌜ (rows ≤ secondsMost) × (room ≤ length (now words)) ⌝ }
     ensures { λ r. ⌜ (r ≡ searched (earlierSecond (now (words .entry)) second) rows) × (r ≤ rows) ⌝ }
@@ -33,35 +34,16 @@ fn count_earlier(words: &[u64], rows: usize, second: u64) -> usize
     let mut width = rows;
     while 0 < width {
         let half = width / 2;
+        let step = half + 1;
         let middle = SECONDS + SECOND * (low + half);
         if words[middle] < second {
-            low = low + half + 1;
-            width = width - half - 1;
+            low += step;
+            width -= step;
         } else {
             width = half;
         }
     }
     low
-}
-
-// The row of `second` among the first `rows`, or before which it belongs. The newest second is looked at first.
-fn find(words: &[u64], rows: usize, second: u64) -> usize
-    requires { ⌜ (rows ≤ secondsMost) × (room ≤ length (now words)) ⌝ }
-    ensures { λ r. ⌜ (r ≡ lastFirst (earlierSecond (now (words .entry)) second) (thatSecond (now (words .entry)) second) rows) × (r ≤ rows) ⌝ }
-{
-    if rows == 0 {
-        return 0;
-    }
-    let last = rows - 1;
-    let at = SECONDS + SECOND * last;
-    let newest = words[at];
-    if newest < second {
-        return rows;
-    }
-    if newest == second {
-        return last;
-    }
-    count_earlier(words, last, second)
 }
 
 // Whether row `row` is one of the first `rows` and has that second.
@@ -77,13 +59,36 @@ fn is_that(words: &[u64], row: usize, rows: usize, second: u64) -> bool
     }
 }
 
-// Where a second is held or belongs.
+// Where a second is held or belongs. The newest second is looked at first.
 pub fn place(words: &[u64], second: u64) -> Place
     requires { ⌜ room ≤ length (now words) ⌝ }
     ensures { λ r. ⌜ r ≡ secondPlace (now (words .entry)) second ⌝ }
 {
     let rows = held(words);
-    let row = find(words, rows, second);
+    if rows == 0 {
+        return Place {
+            row: 0,
+            rows,
+            known: false,
+        };
+    }
+    let last = rows - 1;
+    let newest = words[SECONDS + SECOND * last];
+    if newest < second {
+        return Place {
+            row: rows,
+            rows,
+            known: false,
+        };
+    }
+    if newest == second {
+        return Place {
+            row: last,
+            rows,
+            known: true,
+        };
+    }
+    let row = count_earlier(words, last, second);
     let known = is_that(words, row, rows, second);
     Place { row, rows, known }
 }
@@ -139,12 +144,11 @@ fn insert(words: &mut [u64], row: usize, rows: usize, second: u64, drafts: u64, 
     }
 }
 
-// The sums of `second` with one step more; a second that is not held is put in at its place.
-pub fn add_step(words: &mut [u64], second: u64, drafts: u64, sequences: u64)
-    requires { ⌜ room ≤ length (now words) ⌝ }
+// The sums of `second`, whose place was found, with one step more; a second that is not held is put in there.
+pub fn add_step(words: &mut [u64], found: Place, second: u64, drafts: u64, sequences: u64)
+    requires { ⌜ (found ≡ secondPlace (now words) second) × (room ≤ length (now words)) ⌝ }
     ensures { λ _. ⌜ now (words .exit) ≡ stepAdded (now (words .entry)) second drafts sequences ⌝ }
 {
-    let found = place(words, second);
     let row = found.row;
     let rows = found.rows;
     if found.known {

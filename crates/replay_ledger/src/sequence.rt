@@ -13,11 +13,14 @@ use ledger_rows::layout::ROOM;
 ghost use Prim.Native.Nat.{_≤_};
 ghost use lib.ListN.{length};
 
-// Plays a case on a storage of eight words more than it takes, and three buffers of the series.
+// The storage's words: eight more than a planner takes.
+const WHOLE: usize = ROOM + 8;
+
+// Plays a case on a whole storage and three buffers of the series.
 pub fn play(input: &[u64], ours: &mut [u64]) -> usize
     ensures { λ r. ⌜ r ≤ length (now (ours .exit)) ⌝ }
 {
-    let mut storage = [0xDEAD_BEEFu64; 18315];
+    let mut storage = [0xDEAD_BEEFu64; WHOLE];
     let mut seconds = [0xDEAD_BEEFu64; 4104];
     let mut drafts = [42.0f64; 4104];
     let mut batches = [42.0f64; 4104];

@@ -1,39 +1,46 @@
 -- `ledger_changes::inner::pop` meets its contract. Assumes nothing.
-use mathlib.Core.Path.{ap}
-use mathlib.Core.List.{List}
-use Prim.Native.Nat.{ℕ, _-_}
-use lib.ListN.{set}
-use Rattle.ledger_changes.specs.Changes.{popped}
+use Rattle.ledger_changes.proofs.Ways.{popped-is}
 use borrow.Author.Needs.{needs}
 use Rattle.ledger_changes.proofs.inner.pop.Statement.{statement}
 use Rattle.ledger_changes.proofs.inner.pop.Tie as tie
 
-slice-aggregate-take-out : tie.Need-slice-aggregate-take-out
-slice-aggregate-take-out c = search needs
+newest-slot-requires : tie.Need-newest-slot-requires
+newest-slot-requires c κs = search needs
 
-take-out-requires : tie.Need-take-out-requires
-take-out-requires c κs = search needs
+mul-put : tie.Need-mul-put
+mul-put c = search needs
 
-sub-words : tie.Need-sub-words
-sub-words c = search needs
+add-put : tie.Need-add-put
+add-put c = search needs
 
-slice-write-words : tie.Need-slice-write-words
-slice-write-words c = search needs
+slice-aggregate-put : tie.Need-slice-aggregate-put
+slice-aggregate-put c = search needs
+
+put-requires : tie.Need-put-requires
+put-requires c κs = search needs
+
+sub-note : tie.Need-sub-note
+sub-note c = search needs
+
+note-requires : tie.Need-note-requires
+note-requires c κs = search needs
 
 same-length : tie.Need-same-length
 same-length c = search needs
 
 returns : tie.Need-returns
-unfolding popped
-returns c = ap (λ (l : List ℕ). set l 2 (c .before .before .before .before .before .before .args .before - 1)) (c .before .before .take-out .ensures)
+returns c = popped-is (c .before .before .before .before .before .before .before .before .before .before .before .before .args .words .now) (c .before .before .before .before .before .before .before .before .before .before .before .before .args .before) (c .before .before .before .before .before .before .before .before .before .newest-slot .result) _ _ (c .before .before .before .before .before .before .before .before .before .newest-slot .ensures .0) (c .before .before .before .before .before .before .put .ensures) (c .before .before .note .ensures)
 
 pub pop-spec : {M : Type 1} → statement M
 pop-spec =
     tie.close
     (tie.spec
-    slice-aggregate-take-out
-    take-out-requires
-    sub-words
-    slice-write-words
+    newest-slot-requires
+    mul-put
+    add-put
+    slice-aggregate-put
+    put-requires
+    sub-note
+    note-requires
     same-length
     returns)

@@ -4,8 +4,9 @@ use Prim.Native.Nat.{_≤_, _+_}
 use native.Mathlib.Omega.{arith}
 use borrow.Author.Tests.{lt-ltb, le-ltb}
 use Rattle.ledger_rows.specs.Words.{place, searched}
-use Rattle.ledger_rows.proofs.Search.{turn-up, turn-down, turn-none}
+use Rattle.ledger_rows.proofs.Search.{turn-down, turn-none}
 use Rattle.ledger_seconds.specs.Seconds.{earlierSecond}
+use Rattle.ledger_seconds.proofs.Ways.{turn-step}
 use borrow.Author.Needs.{needs}
 use Rattle.ledger_seconds.proofs.inner.count_earlier.Statement.{statement}
 use Rattle.ledger_seconds.proofs.inner.count_earlier.Tie as tie
@@ -18,6 +19,9 @@ abbrev μ-loop : tie.MeasureT-loop
 
 loop-holds : tie.Need-loop-holds Inv-loop μ-loop
 loop-holds c = (omega arith, refl)
+
+add-step : tie.Need-add-step Inv-loop μ-loop
+add-step c = omega arith
 
 add-middle : tie.Need-add-middle Inv-loop μ-loop
 add-middle c = omega arith
@@ -37,20 +41,14 @@ shared-slice-read-if1 c = omega arith
 add-low : tie.Need-add-low Inv-loop μ-loop
 add-low c = omega arith
 
-add-low-2 : tie.Need-add-low-2 Inv-loop μ-loop
-add-low-2 c = omega arith
-
 sub-width : tie.Need-sub-width Inv-loop μ-loop
 sub-width c = omega arith
-
-sub-width-2 : tie.Need-sub-width-2 Inv-loop μ-loop
-sub-width-2 c = omega arith
 
 loop-less : tie.Need-loop-less Inv-loop μ-loop
 loop-less c = omega arith
 
 loop-again : tie.Need-loop-again Inv-loop μ-loop
-loop-again c = (omega arith, c .before .before .before .loop .inv .1 ∙ turn-up (earlierSecond (c .before .before .before .before .args .words .now) (c .before .before .before .before .args .second)) (c .before .before .before .loop .low) (c .before .before .before .loop .width) (c .before .before .loop-test .taken) (lt-ltb _ _ (c .if1 .taken)))
+loop-again c = (omega arith, c .before .before .before .loop .inv .1 ∙ turn-step (earlierSecond (c .before .before .before .before .args .words .now) (c .before .before .before .before .args .second)) (c .before .before .before .loop .low) (c .before .before .before .loop .width) (c .before .before .loop-test .taken) (lt-ltb _ _ (c .if1 .taken)))
 
 loop-less-2 : tie.Need-loop-less-2 Inv-loop μ-loop
 loop-less-2 c = omega arith
@@ -69,15 +67,14 @@ count-earlier-spec =
     Inv-loop
     μ-loop
     loop-holds
+    add-step
     add-middle
     mul-middle
     add-middle-2
     mul-if1
     shared-slice-read-if1
     add-low
-    add-low-2
     sub-width
-    sub-width-2
     loop-less
     loop-again
     loop-less-2

@@ -10,7 +10,7 @@ use numbers::word_case::WordCase;
 use oracle::simulation::spec::probe::Record;
 
 /// The words that a planner takes, and those that the replaying program has.
-pub const ROOM: usize = 18_307;
+pub const ROOM: usize = 18_308;
 pub const WHOLE: usize = ROOM + 8;
 
 /// What a word of the storage holds before the first call.
