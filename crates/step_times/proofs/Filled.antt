@@ -1,11 +1,11 @@
 -- An array that is filled from its front. Assumes nothing.
 use mathlib.Core.Path.{_≡_, refl, sym, ap, _∙_}
 use mathlib.Core.List.{List, [], _∷_}
-use Prim.Native.Nat.{ℕ, zero, suc, _+_}
-use native.Mathlib.Nat.{add-zero, add-suc, suc-add, zero-add}
+use Prim.Native.Nat.{ℕ, zero, suc, _+_, _≤_}
+use native.Mathlib.Nat.{add-zero, add-suc, suc-add, zero-add, le-of-suc-le-suc}
 use native.Mathlib.Numerals.{add-one}
 use native.Mathlib.Omega.{arith}
-use lib.ListN.{length, set, length-set}
+use lib.ListN.{length, set, take, length-set}
 use lib.Ieee.{Float}
 use Rattle.step_times.specs.Prices.{each}
 
@@ -48,6 +48,13 @@ fill-all f (suc k) g (x ∷ xs) h = ap (λ l. f g ∷ l) (fill-all f k (suc g) x
 pub fill-turn : (f : ℕ → Float) (k : ℕ) (xs out : List Float) (x : Float) → out ≡ fill f k 0 xs → x ≡ f k → set out k x ≡ fill f (k + 1) 0 xs
 fill-turn f k xs out x e h = rw (e, h) (fill-more f k xs)
 
--- and its end
-pub fill-ended : {out : List Float} (f : ℕ → Float) (k n : ℕ) (xs : List Float) → out ≡ fill f k 0 xs → length xs ≡ n → k ≡ n → out ≡ each f n 0
-fill-ended f k n xs e h l = e ∙ ap (λ m. fill f m 0 xs) l ∙ fill-all f n 0 xs h
+-- the first n of k
+first-of : (f : ℕ → Float) (n k g : ℕ) → n ≤ k → take n (each f k g) ≡ each f n g
+unfolding each
+first-of f zero k g h = refl
+first-of f (suc n) zero g h = absurd (omega arith)
+first-of f (suc n) (suc k) g h = ap (λ l. f g ∷ l) (first-of f n k (suc g) (le-of-suc-le-suc h))
+
+-- and its end: the first of k
+pub fill-ended : {out : List Float} (f : ℕ → Float) (j k : ℕ) (xs : List Float) → out ≡ fill f j 0 xs → j ≡ length xs → length xs ≤ k → out ≡ take (length xs) (each f k 0)
+fill-ended f j k xs e l h = e ∙ ap (λ m. fill f m 0 xs) l ∙ fill-all f (length xs) 0 xs refl ∙ sym (first-of f (length xs) k 0 h)

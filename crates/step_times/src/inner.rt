@@ -8,7 +8,7 @@ use nearest_row::inner;
 ghost use mathlib.Core.Path.{_≡_};
 ghost use mathlib.Core.Bool.{true};
 ghost use Prim.Native.Nat.{_≤_};
-ghost use lib.ListN.{length};
+ghost use lib.ListN.{length, take};
 ghost use Rattle.cost_rows.specs.Table.{zip};
 ghost use Rattle.cost_rows.specs.Order.{ordered};
 ghost use Rattle.step_times.specs.Times.{stepTime};
@@ -61,7 +61,34 @@ pub fn step_time_frac(
     frac::straight_between(g, low, high, at_low, at_high)
 }
 
-// The prices of the depths 0 to 64 at one batch: +infinity where a depth is not measured.
+// The prices of the first depths at one batch, as many as `out` has slots for: +infinity where a depth is not measured.
+pub fn prices_to(
+    depths: &[u32],
+    batches: &[u32],
+    seconds: &[f64],
+    rows: usize,
+    batch: u32,
+    kv_delta: f64,
+    out: &mut [f64],
+)
+    requires { ⌜ (rows ≤ length (now depths)) × (rows ≤ length (now batches)) × (rows ≤ length (now seconds)) ⌝ }
+    requires { ⌜ ordered (zip rows (now depths) (now batches) (now seconds)) ≡ true ⌝ }
+    requires { ⌜ length (now out) ≤ 65 ⌝ }
+    ensures { λ r. ⌜ now (out .exit) ≡ take (length (now (out .entry))) (prices batch «kv_delta» (zip rows (now (depths .entry)) (now (batches .entry)) (now (seconds .entry)))) ⌝ }
+{
+    let mut from = 0usize;
+    let mut g = 0usize;
+    while g < out.len() {
+        let depth = g as u32;
+        let at = inner::place_from(depths, batches, seconds, rows, from, depth, batch);
+        let near = inner::beside(depths, batches, seconds, rows, at, batch, depth);
+        out[g] = prices::price_of(kv_delta, near);
+        from = at;
+        g += 1;
+    }
+}
+
+// The prices of the depths 0 to 64 at one batch.
 pub fn prices(
     depths: &[u32],
     batches: &[u32],
@@ -75,15 +102,6 @@ pub fn prices(
     ensures { λ r. ⌜ r ≡ prices batch «kv_delta» (zip rows (now (depths .entry)) (now (batches .entry)) (now (seconds .entry))) ⌝ }
 {
     let mut curve = [0.0; 65];
-    let mut from = 0usize;
-    let mut g = 0usize;
-    while g < 65 {
-        let depth = g as u32;
-        let at = inner::place_from(depths, batches, seconds, rows, from, depth, batch);
-        let near = inner::beside(depths, batches, seconds, rows, at, batch, depth);
-        curve[g] = prices::price_of(kv_delta, near);
-        from = at;
-        g += 1;
-    }
+    prices_to(depths, batches, seconds, rows, batch, kv_delta, &mut curve);
     curve
 }

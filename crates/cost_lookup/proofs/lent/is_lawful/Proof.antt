@@ -1,29 +1,39 @@
 -- `lent::is_lawful` meets its contract. Assumes nothing.
 use mathlib.Core.Path.{sym, _∙_}
+use borrow.Author.Tests.{not-true, not-false}
 use Rattle.cost_rows.specs.Lawful.{lawful}
 use borrow.Author.Needs.{needs}
 use Rattle.cost_lookup.proofs.lent.is_lawful.Statement.{statement}
 use Rattle.cost_lookup.proofs.lent.is_lawful.Tie as tie
 
-are-in-range-requires : tie.Need-are-in-range-requires
-are-in-range-requires c κs = search needs
+all-in-range-requires : tie.Need-all-in-range-requires
+all-in-range-requires c κs = search needs
+
+returns : tie.Need-returns
+unfolding lawful
+returns c = simp (sym (c .before .all-in-range .ensures) ∙ not-true _ (c .if1 .taken))
+
+do-rise-requires : tie.Need-do-rise-requires
+do-rise-requires c κs = search needs
+
+returns-2 : tie.Need-returns-2
+unfolding lawful
+returns-2 c = simp (sym (c .before .before .before .all-in-range .ensures) ∙ not-false _ (c .before .before .if1 .left), c .before .do-rise .ensures (c .if2 .taken))
 
 are-in-order-requires : tie.Need-are-in-order-requires
 are-in-order-requires c κs = search needs
 
-returns : tie.Need-returns
+returns-3 : tie.Need-returns-3
 unfolding lawful
-returns c = simp (sym (c .before .before .are-in-range .ensures) ∙ c .before .if1 .taken, c .are-in-order .ensures)
-
-returns-2 : tie.Need-returns-2
-unfolding lawful
-returns-2 c = simp (sym (c .before .are-in-range .ensures) ∙ c .if1 .left)
+returns-3 c = simp (sym (c .before .before .before .before .all-in-range .ensures) ∙ not-false _ (c .before .before .before .if1 .left), c .are-in-order .ensures)
 
 pub is-lawful-spec : {M : Type 1} → statement M
 is-lawful-spec =
     tie.close
     (tie.spec
-    are-in-range-requires
-    are-in-order-requires
+    all-in-range-requires
     returns
-    returns-2)
+    do-rise-requires
+    returns-2
+    are-in-order-requires
+    returns-3)

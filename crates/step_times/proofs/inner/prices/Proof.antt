@@ -1,79 +1,23 @@
 -- `inner::prices` meets its contract. Assumes nothing.
-use mathlib.Core.Path.{_≡_, refl, ap, _∙_}
-use mathlib.Core.Bool.{true}
-use Prim.Native.Nat.{ℕ, _≤_, _-_}
-use native.Mathlib.Omega.{arith}
-use lib.ListN.{length, length-set, replicate}
-use lib.Ieee.{Float}
-use Rattle.float.specs.Floats.{f0}
-use Rattle.cost_rows.specs.Table.{zip}
-use Rattle.cost_rows.specs.Order.{ordered}
-use Rattle.nearest_row.specs.Lookup.{nearest}
-use Rattle.nearest_row.specs.Place.{rowsBefore}
-use Rattle.step_times.specs.Prices.{priceOf, prices}
-use Rattle.nearest_row.proofs.Placed.{place-next}
-use Rattle.step_times.proofs.Filled.{fill, fill-none, fill-turn, fill-ended}
+use Rattle.step_times.specs.Prices.{prices}
 use borrow.Author.Needs.{needs}
 use Rattle.step_times.proofs.inner.prices.Statement.{statement}
 use Rattle.step_times.proofs.inner.prices.Tie as tie
 
-abbrev Inv-loop : tie.InvT-loop
-Inv-loop depths batches seconds rows batch kv-delta curve₀ from₀ g₀ curve from g = (g ≤ 65) × (rows ≤ length depths) × (rows ≤ length batches) × (rows ≤ length seconds) × (ordered (zip rows depths batches seconds) ≡ true) × (from ≤ rowsBefore g batch (zip rows depths batches seconds)) × (length curve ≡ 65) × (curve ≡ fill (λ j. priceOf kv-delta (nearest batch j (zip rows depths batches seconds))) g 0 (replicate 65 f0))
+slice-aggregate-prices-to : tie.Need-slice-aggregate-prices-to
+slice-aggregate-prices-to c = search needs
 
-abbrev μ-loop : tie.MeasureT-loop
-μ-loop depths batches seconds rows batch kv-delta curve₀ from₀ g₀ curve from g = 65 - g
+prices-to-requires : tie.Need-prices-to-requires
+prices-to-requires c κs = search needs
 
-loop-holds : tie.Need-loop-holds Inv-loop μ-loop
-loop-holds c = (omega arith, omega arith, omega arith, omega arith, c .before .before .before .pre .1, omega arith, refl, fill-none _ _)
-
-cast-depth : tie.Need-cast-depth Inv-loop μ-loop
-cast-depth c = omega arith
-
-place-from-requires : tie.Need-place-from-requires Inv-loop μ-loop
-place-from-requires c κs = ((c .before .loop .inv .1, c .before .loop .inv .2, c .before .loop .inv .3), (c .before .loop .inv .4, c .before .loop .inv .5))
-
-beside-requires : tie.Need-beside-requires Inv-loop μ-loop
-beside-requires c κs = ((c .before .before .loop .inv .1, c .before .before .loop .inv .2, c .before .before .loop .inv .3), (c .before .before .loop .inv .4, c .place-from .ensures))
-
-price-of-requires : tie.Need-price-of-requires Inv-loop μ-loop
-price-of-requires c κs = search needs
-
-mul-curve : tie.Need-mul-curve Inv-loop μ-loop
-mul-curve c = omega arith
-
-array-write-curve : tie.Need-array-write-curve Inv-loop μ-loop
-array-write-curve c = omega arith
-
-add-g : tie.Need-add-g Inv-loop μ-loop
-add-g c = omega arith
-
-loop-less : tie.Need-loop-less Inv-loop μ-loop
-loop-less c = omega arith
-
-loop-again : tie.Need-loop-again Inv-loop μ-loop
-loop-again c =
-    let v = c .before .before .before .before .loop .inv in
-    let next = place-next (c .before .before .before .before .before .before .before .before .args .rows) (c .before .before .before .before .before .before .before .before .args .depths .now) (c .before .before .before .before .before .before .before .before .args .batches .now) (c .before .before .before .before .before .before .before .before .args .seconds .now) (v .1) (v .2) (v .3) (v .4) (c .before .before .before .before .loop .g) (c .before .before .before .before .before .before .before .before .args .batch) in
-    (omega arith, v .1, v .2, v .3, v .4, omega (arith, next, c .before .before .place-from .ensures), length-set (c .before .before .before .before .loop .curve) (c .before .before .before .before .loop .g) (c .price-of .result) ∙ v .6, fill-turn _ (c .before .before .before .before .loop .g) _ _ (c .price-of .result) (v .7) (c .price-of .ensures ∙ ap (priceOf (c .before .before .before .before .before .before .before .before .args .kv-delta)) (c .before .beside .ensures)))
-
-returns : tie.Need-returns Inv-loop μ-loop
+returns : tie.Need-returns
 unfolding prices
-returns c = fill-ended _ (c .before .loop .g) 65 _ (c .before .loop .inv .7) refl (omega arith)
+returns c = search needs
 
 pub prices-spec : {M : Type 1} → statement M
 prices-spec =
     tie.close
     (tie.spec
-    Inv-loop
-    μ-loop
-    loop-holds
-    cast-depth
-    place-from-requires
-    beside-requires
-    price-of-requires
-    mul-curve
-    array-write-curve
-    add-g
-    loop-less
-    loop-again
+    slice-aggregate-prices-to
+    prices-to-requires
     returns)
