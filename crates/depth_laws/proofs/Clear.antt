@@ -73,16 +73,22 @@ not-zero m n e d p t =
     let c : n * up d * down e ≤ m * up e * down d = ltb-false (m * up e * down d) (n * up d * down e) t in
     lt→ltb 0 m (first-pos m (up e) (first-pos (m * up e) (down d) (omega arith)))
 
--- the larger of a finite number whose sign bit is clear and of one above zero
-max-positive : (c y : Float) → isClear c ≡ true → isFinite c ≡ true → T (positive y) → T (positive (maxOf c y))
-unfolding maxOf isClear isFinite lt isNan
-max-positive nan y h k p = clash h
-max-positive (inf s) y h k p = clash k
-max-positive (fin true m e) y h k p = clash h
-max-positive (fin false m e) nan h k p = absurd p
-max-positive (fin false m e) (inf t) h k p = absurd p
-max-positive (fin false m e) (fin true n d) h k p = absurd p
-max-positive (fin false m e) (fin false n d) h k p = go (lt (fin false m e) (fin false n d)) refl
+-- a number whose sign bit is set is below one above zero
+below-positive : (m n : ℕ) (e d : ℤ) → T (ltb 0 n) → ltb 0 (m * up e * down d + n * up d * down e) ≡ true
+below-positive m n e d p =
+    let b : 0 < n * up d * down e = mul-pos (mul-pos (ltb→lt 0 n p) (up-pos d)) (down-pos e) in
+    lt-ltb 0 (m * up e * down d + n * up d * down e) (omega arith)
+
+-- the larger of a finite number and of one above zero
+max-positive : (c y : Float) → isFinite c ≡ true → T (positive y) → T (positive (maxOf c y))
+unfolding maxOf isFinite lt isNan
+max-positive nan y k p = clash k
+max-positive (inf s) y k p = clash k
+max-positive (fin s m e) nan k p = absurd p
+max-positive (fin s m e) (inf t) k p = absurd p
+max-positive (fin s m e) (fin true n d) k p = absurd p
+max-positive (fin true m e) (fin false n d) k p = rw (below-positive m n e d p) p
+max-positive (fin false m e) (fin false n d) k p = go (lt (fin false m e) (fin false n d)) refl
   where
     go : (b : Bool) → lt (fin false m e) (fin false n d) ≡ b → T (positive (cond b (fin false n d) (fin false m e)))
     go true t = p
@@ -92,10 +98,10 @@ tiny-positive : T (positive tiny)
 unfolding ofBits
 tiny-positive = tt
 
--- goodput in the domain
-pub goodput-clear : (n : ℕ) (e c : Float) → isClear e ≡ true → isClear c ≡ true → isFinite c ≡ true → isClear (goodputOf n e c) ≡ true
-goodput-clear n e c h k l =
-    div-clear binary64 (add binary64 e (whole n)) (maxOf c tiny) (add-clear binary64 e (whole n) h (whole-clear n)) (max-positive c tiny k l tiny-positive)
+-- goodput, where the cost is finite
+pub goodput-clear : (n : ℕ) (e c : Float) → isClear e ≡ true → isFinite c ≡ true → isClear (goodputOf n e c) ≡ true
+goodput-clear n e c h l =
+    div-clear binary64 (add binary64 e (whole n)) (maxOf c tiny) (add-clear binary64 e (whole n) h (whole-clear n)) (max-positive c tiny l tiny-positive)
 
 -- a number whose sign bit is clear is above one whose sign bit is set and that is not zero
 negative-below : (m : ℕ) (e : ℤ) (x : Float) → T (ltb 0 m) → isClear x ≡ true → lt (fin true m e) x ≡ true
@@ -123,12 +129,6 @@ unfolding isClear noSign
 clear-no-sign nan h = refl
 clear-no-sign (inf s) h = h
 clear-no-sign (fin s m e) h = h
-
-pub finite-clear : (x : Float) → noSign x ≡ true → isFinite x ≡ true → isClear x ≡ true
-unfolding isClear isFinite noSign
-finite-clear nan h k = k
-finite-clear (inf s) h k = clash k
-finite-clear (fin s m e) h k = h
 
 round-no-sign : (f : Format) (a c : ℕ) → noSign (round f false a c) ≡ true
 round-no-sign f a c = clear-no-sign _ (round-clear f a c)

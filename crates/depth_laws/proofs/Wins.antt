@@ -1,5 +1,5 @@
 -- The depth that the Rust's loop ends with is the rules': the smallest depth of finite cost that no other exceeds, and 0 where there is none.
--- It holds where the expected values and the finite costs have a clear sign bit and are no NaN, and no second depth is such. Assumes nothing.
+-- It holds where the expected values have a clear sign bit and are no NaN, whatever the costs are, and no second depth is such. Assumes nothing.
 use mathlib.Core.Path.{_≡_, refl, sym, _∙_, ap, subst}
 use mathlib.Core.Logic.{_⊎_, inl, inr, ⊎-elim}
 use mathlib.Core.Bool.{Bool, true, false, not, cond, _&&_, _||_}
@@ -35,20 +35,17 @@ abbrev pub Wins : ℕ → List Float → List Float → ℕ → Type 0
 Wins n es cs w =
     (Unexceeded n es cs w × ((g : ℕ) → g < w → Unexceeded n es cs g → ⊥)) ⊎ (((g : ℕ) → Candidate cs g → ⊥) × (w ≡ 0))
 
--- every entry has a clear sign bit and is no NaN; of costs, every finite one
+-- every entry has a clear sign bit and is no NaN
 abbrev pub AllClear : List Float → Type 0
 AllClear xs = (g : ℕ) → g < length xs → isClear (getD xs g nan) ≡ true
 
-abbrev pub CostsClear : List Float → Type 0
-CostsClear cs = (g : ℕ) → Candidate cs g → isClear (getD cs g nan) ≡ true
-
 -- ---- the loop
-module _ (n : ℕ) (es cs : List Float) (same : length es ≡ length cs) (E : AllClear es) (C : CostsClear cs) where
+module _ (n : ℕ) (es cs : List Float) (same : length es ≡ length cs) (E : AllClear es) where
   abbrev W : ℕ → Float
   W g = goodputAt n es cs g
 
   clear-at : (g : ℕ) → Candidate cs g → isClear (W g) ≡ true
-  clear-at g k = goodput-clear n (getD es g nan) (getD cs g nan) (E g (omega (arith, k .0))) (C g k) (k .1)
+  clear-at g k = goodput-clear n (getD es g nan) (getD cs g nan) (E g (omega (arith, k .0))) (k .1)
 
   number-at : (g : ℕ) → Candidate cs g → isNan (W g) ≡ false
   number-at g k = clear-no-nan (W g) (clear-at g k)
@@ -244,9 +241,9 @@ module _ (n : ℕ) (es cs : List Float) where
   wins-found w (inr p) = none-best (length cs) 0 (omega arith) (p .0) ∙ sym (p .1)
 
 -- the Rust's depth is the rules'
-pub loop-is-best : (n : ℕ) (es cs : List Float) → length es ≡ length cs → AllClear es → CostsClear cs → bestDepth n es cs ≡ bestOf n es cs
-loop-is-best n es cs same E C = sym (wins-found n es cs (bestDepth n es cs) (best-wins n es cs same E C))
+pub loop-is-best : (n : ℕ) (es cs : List Float) → length es ≡ length cs → AllClear es → bestDepth n es cs ≡ bestOf n es cs
+loop-is-best n es cs same E = sym (wins-found n es cs (bestDepth n es cs) (best-wins n es cs same E))
 
 -- so it is a depth of finite cost, or 0
-pub best-is : (n : ℕ) (es cs : List Float) → length es ≡ length cs → AllClear es → CostsClear cs → Wins n es cs (bestOf n es cs)
-best-is n es cs same E C = subst (Wins n es cs) (loop-is-best n es cs same E C) (best-wins n es cs same E C)
+pub best-is : (n : ℕ) (es cs : List Float) → length es ≡ length cs → AllClear es → Wins n es cs (bestOf n es cs)
+best-is n es cs same E = subst (Wins n es cs) (loop-is-best n es cs same E) (best-wins n es cs same E)

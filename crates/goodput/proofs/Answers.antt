@@ -26,7 +26,7 @@ use Rattle.chains.proofs.Summed.{with-length}
 use Rattle.goodput_judges.proofs.Judges.{zero-of, Sized, sizes-passed, Lent, inputs-passed}
 use Rattle.goodput_judges.proofs.Stages.{stages-none}
 use Rattle.goodput.proofs.Depths.{refused-as, found-as}
-use Rattle.depth_laws.proofs.Domain.{drafter-passed, loaded-clear, expected-clear, chains-clear, over-best}
+use Rattle.depth_laws.proofs.Domain.{expected-clear, chains-clear, over-best}
 
 both : (a b : Bool) → (a && b) ≡ true → (a ≡ true) × (b ≡ true)
 both true b h = (refl, h)
@@ -63,7 +63,7 @@ module _ (es curve : List Float) (gamma n : ℕ) (kind : DrafterCost) (rates : R
       let w = depth-passed h in
       let b = both (allOf isExpected (take (gamma + 1) es)) (allOf isPrice (take (gamma + 1) curve)) (w .lent .in-range) in
       let best : depthOver kind n rates (loadedAt kind loaded n) (take (gamma + 1) es) (take (gamma + 1) curve) ≡ bestPriced kind n rates loaded (take (gamma + 1) es) (take (gamma + 1) curve) =
-      over-best kind n rates (loadedAt kind loaded n) (take (gamma + 1) es) (take (gamma + 1) curve) (drafter-passed kind (w .sized .drafter)) (w .lent .streamed) (loaded-clear kind n loaded (w .lent .loads)) (b .1)
+      over-best kind n rates (loadedAt kind loaded n) (take (gamma + 1) es) (take (gamma + 1) curve)
       (front gamma es (w .values) ∙ sym (front gamma curve (w .prices))) (expected-clear (take (gamma + 1) es) (b .0)) in
       found-as r (depthRefusal es curve gamma n kind rates loaded) g _ e h (d ∙ ap (λ (y : Float). depthOver kind n rates y (take (gamma + 1) es) (take (gamma + 1) curve)) x ∙ best)
 
@@ -120,7 +120,7 @@ module _ (chains : List Float) (lengths : List ℕ) (curve : List Float) (gamma 
       let all : gamma < length es = omega (arith, expected-length gamma lengths chains, w .sized .shallow) in
       let long = front gamma curve (w .prices) in
       let best : depthOver kind n rates (loadedAt kind loaded n) (take (gamma + 1) es) (take (gamma + 1) curve) ≡ bestPriced kind n rates loaded (take (gamma + 1) es) (take (gamma + 1) curve) =
-      over-best kind n rates (loadedAt kind loaded n) (take (gamma + 1) es) (take (gamma + 1) curve) (drafter-passed kind (w .sized .drafter)) (w .lent .streamed) (loaded-clear kind n loaded (w .lent .loads)) (b .1)
+      over-best kind n rates (loadedAt kind loaded n) (take (gamma + 1) es) (take (gamma + 1) curve)
       (front gamma es all ∙ sym long) (chains-clear gamma (gamma + 1) lengths chains (b .0)) in
       found-as r (aggregateRefusal chains lengths curve gamma kind rates loaded) g _ e h
       (d ∙ ap (λ (y : Float). gateDepth kind rates y lengths chains (take (gamma + 1) curve)) x ∙ same-gate (loadedAt kind loaded n) (take (gamma + 1) curve) long ∙ best)
