@@ -1,0 +1,4 @@
+pub mod Draws
+pub mod Laid
+pub mod Parts
+pub mod Laying

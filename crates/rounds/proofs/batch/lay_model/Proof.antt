@@ -1,0 +1,80 @@
+-- `batch::lay_model` meets its contract: the same chain is laid for each sequence. Assumes nothing.
+use mathlib.Core.Path.{_≡_, refl, sym, ap, _∙_}
+use mathlib.Core.List.{List, _++_}
+use Prim.Native.Nat.{_≤_, _<_, _-_, _+_, _*_}
+use native.Mathlib.Omega.{arith}
+use denote.Ref.{now}
+use lib.ListN.{length}
+use lib.Seq.{sets}
+use lib.Ieee.{Float}
+use Rattle.chains.specs.Survival.{survivalChain}
+use Rattle.rounds.specs.Signals.{slots, valuesFrom, modelChain, sameChains}
+use Rattle.rounds.proofs.Parts.{values-length}
+use Rattle.rounds.proofs.Laying.{Laying, laying-begins, laying-next, laying-is, laying-ends, same-all, same-next, same-ends, slots-length, chain-length}
+use borrow.Author.Needs.{needs}
+use Rattle.rounds.proofs.batch.lay_model.Statement.{statement}
+use Rattle.rounds.proofs.batch.lay_model.Tie as tie
+
+abbrev Inv-loop : tie.InvT-loop
+Inv-loop positions gamma n chains₀ chain k₀ chains k = (k ≤ n) × Laying (sameChains chain n) chains₀ chains k (sameChains chain (n - k))
+
+abbrev μ-loop : tie.MeasureT-loop
+μ-loop positions gamma n chains₀ chain k₀ chains k = n - k
+
+model-slots-requires : tie.Need-model-slots-requires Inv-loop μ-loop
+model-slots-requires c κs = search needs
+
+chain-requires : tie.Need-chain-requires Inv-loop μ-loop
+chain-requires c κs = search needs
+
+loop-holds : tie.Need-loop-holds Inv-loop μ-loop
+loop-holds c = (omega arith, laying-is _ _ _ 0 _ _ (same-all _ _) (laying-begins _ _))
+
+mul-lay : tie.Need-mul-lay Inv-loop μ-loop
+mul-lay c = omega (arith, c .before .before .before .before .before .before .before .pre .1)
+
+lay-requires : tie.Need-lay-requires Inv-loop μ-loop
+lay-requires c κs = omega (arith, c .before .before .before .before .before .before .before .pre .1, c .before .before .loop .inv .1 .long, c .before .loop-test .taken)
+
+add-k : tie.Need-add-k Inv-loop μ-loop
+add-k c = search needs
+
+loop-less : tie.Need-loop-less Inv-loop μ-loop
+loop-less c = search needs
+
+loop-again : tie.Need-loop-again Inv-loop μ-loop
+loop-again c =
+    let a = c .before .before .before .before .before .before .before .before .before .before .args in
+    let here = c .before .before .before .before .before .loop in
+    let v = valuesFrom (a .model) (now (a .positions)) 0 (a .gamma) in
+    let e : c .before .before .before .before .before .before .chain .result ≡ modelChain (a .model) (now (a .positions)) (a .gamma) = c .before .before .before .before .before .before .chain .ensures ∙ ap (λ (s : List Float). survivalChain s (a .gamma)) (c .before .before .before .before .before .before .before .model-slots .ensures) in
+    let f : length v ≤ 64 = omega (arith, values-length (a .model) (now (a .positions)) 0 (a .gamma), c .before .before .before .before .before .before .before .before .before .before .pre .0) in
+    let l : length (c .before .before .before .before .before .before .chain .result) ≡ 64 = ap length e ∙ chain-length (slots v) (a .gamma) (c .before .before .before .before .before .before .before .before .before .before .pre .0) (slots-length v f) in
+    (omega arith, laying-next _ _ (here .chains) (here .k) (c .before .before .before .before .before .before .chain .result) _ _ l (c .before .before .lay .ensures) (laying-is _ _ (here .chains) (here .k) _ _ (same-next (c .before .before .before .before .before .before .chain .result) (a .n) (here .k) (c .before .before .before .before .loop-test .taken)) (here .inv .1)))
+
+same-length : tie.Need-same-length Inv-loop μ-loop
+same-length c = c .before .loop .inv .1 .long
+
+returns : tie.Need-returns Inv-loop μ-loop
+returns c =
+    let a = c .before .before .before .before .before .before .args in
+    let here = c .before .loop in
+    let e : c .before .before .chain .result ≡ modelChain (a .model) (now (a .positions)) (a .gamma) = c .before .before .chain .ensures ∙ ap (λ (s : List Float). survivalChain s (a .gamma)) (c .before .before .before .model-slots .ensures) in
+    laying-ends _ _ (here .chains) (here .k) _ (same-ends (c .before .before .chain .result) (a .n) (here .k) (c .loop-test .left)) (here .inv .1) ∙ ap (λ (x : List Float). sets (now (a .chains)) 0 (sameChains x (a .n))) e
+
+pub lay-model-spec : {M : Type 1} → statement M
+lay-model-spec =
+    tie.close
+    (tie.spec
+    Inv-loop
+    μ-loop
+    model-slots-requires
+    chain-requires
+    loop-holds
+    mul-lay
+    lay-requires
+    add-k
+    loop-less
+    loop-again
+    same-length
+    returns)

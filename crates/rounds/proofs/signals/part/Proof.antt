@@ -1,0 +1,62 @@
+-- `signals::part` meets its contract. Assumes nothing.
+use lib.Seq.{length-take-le}
+use mathlib.Core.Path.{sym}
+use native.Mathlib.Omega.{arith}
+use denote.Ref.{now}
+use Rattle.rounds.proofs.Parts.{past-end, in-part, all-part}
+use borrow.Author.Needs.{needs}
+use Rattle.rounds.proofs.signals.part.Statement.{statement}
+use Rattle.rounds.proofs.signals.part.Tie as tie
+
+mul-result : tie.Need-mul-result
+mul-result c = search needs
+
+sub-result : tie.Need-sub-result
+sub-result c = search needs
+
+part-result-start : tie.Need-part-result-start
+part-result-start c = search needs
+
+part-result-end : tie.Need-part-result-end
+part-result-end c = search needs
+
+returns : tie.Need-returns
+returns c = let a = c .before .before .args in past-end (now (a .values)) (a .at) (a .count) (c .before .if1 .taken)
+
+mul-rest : tie.Need-mul-rest
+mul-rest c = search needs
+
+sub-rest : tie.Need-sub-rest
+sub-rest c = search needs
+
+part-rest-start : tie.Need-part-rest-start
+part-rest-start c = search needs
+
+part-rest-end : tie.Need-part-rest-end
+part-rest-end c = search needs
+
+slice-aggregate-result : tie.Need-slice-aggregate-result
+slice-aggregate-result c = sym (length-take-le (c .before .before .before .before .args .count) _ (omega (arith, c .before .if2 .taken)))
+
+returns-2 : tie.Need-returns-2
+returns-2 c = let a = c .before .before .before .before .args in in-part (now (a .values)) (a .at) (a .count)
+
+returns-3 : tie.Need-returns-3
+returns-3 c = let a = c .before .before .before .args in all-part (now (a .values)) (a .at) (a .count) (c .if2 .left)
+
+pub part-spec : {M : Type 1} → statement M
+part-spec =
+    tie.close
+    (tie.spec
+    mul-result
+    sub-result
+    part-result-start
+    part-result-end
+    returns
+    mul-rest
+    sub-rest
+    part-rest-start
+    part-rest-end
+    slice-aggregate-result
+    returns-2
+    returns-3)
