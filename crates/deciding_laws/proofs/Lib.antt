@@ -1,0 +1,2 @@
+mod Clear
+pub mod Rules
