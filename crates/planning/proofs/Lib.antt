@@ -1,0 +1,5 @@
+pub mod Fronts
+pub mod Ways
+pub mod Prices
+pub mod Writing
+pub mod Batches
