@@ -42,7 +42,7 @@ workers-count : (s : Standing) (rest : List ℕ) → Reached s → workersHeld (
 unfolding encode
 workers-count s rest r = held-workers (length (secondsGiven (s .changes))) (newestOf s) (secondsGiven (s .changes)) rest (0, 0) (workersGiven (s .changes)) (fit-workers (s .changes) (r .sound)) (workers-ascend (s .changes)) ∙ length-workers (s .changes)
 
-kept : (s : Standing) (rest : List ℕ) → Reached s → Kept s (encode s rest)
+pub kept : (s : Standing) (rest : List ℕ) → Reached s → Kept s (encode s rest)
 kept s rest r = record {
   seconds-are = seconds-count s rest r;
   workers-are = workers-count s rest r;

@@ -71,7 +71,7 @@ module _ (s : Standing) (rest : List ℕ) (r : Reached s) where
   unfolding heldSums
   held-some t l = at-seconds t cs ∙ rw l
 
-  by-rule : (t : ℕ) → stepJudged E t ≡ stepRule t cs
+  pub by-rule : (t : ℕ) → stepJudged E t ≡ stepRule t cs
   unfolding encode stepRule
   by-rule t =
       let o : Option Sums = heldSums (sumsAt t cs) in
@@ -81,7 +81,7 @@ module _ (s : Standing) (rest : List ℕ) (r : Reached s) where
       (λ q. read-second (length (secondsGiven cs)) (length (workersGiven cs)) (newestOf s) (workersGiven cs) rest t (secondsGiven cs) (fit-seconds cs (r .sound)) (sumsAt t cs) (held-some t (sym (held-test (sumsAt t cs)) ∙ q)) 3 (omega arith))
       ∙ rw (held-test (sumsAt t cs), length-seconds cs)
 
-  by-worker-rule : (w : Worker) → workerJudged E (w .0) (w .1) ≡ workerRule w cs
+  pub by-worker-rule : (w : Worker) → workerJudged E (w .0) (w .1) ≡ workerRule w cs
   unfolding encode workerRule
   by-worker-rule w =
       judged-worker E (w .0) (w .1) (wide-enough s rest)

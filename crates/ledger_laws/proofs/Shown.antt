@@ -82,7 +82,7 @@ module _ (s : Standing) (rest : List ℕ) (r : Reached s) where
       let n : getD E (secondAt i + 3) 0 ≡ getD rows i noSecond .1 .steps = word-of i 3 h (omega arith) in
       rw (q, n))
 
-  shown : Shown s rows E
+  pub shown : Shown s rows E
   unfolding seriesRead dayFigure front
   shown = record {
     ascending = seconds-ascend (s .changes);

@@ -1,0 +1,104 @@
+-- A gate gives each sequence one width, none above its chain's length. Assumes nothing.
+use mathlib.Core.Path.{_≡_, refl, _∙_}
+use mathlib.Core.Bool.{Bool, true, false, cond}
+use mathlib.Core.List.{List, [], _∷_}
+use Prim.Native.Nat.{ℕ, zero, suc, _+_, _-_, _*_, _≤_, _<_, zero-le, suc-le-suc}
+use native.Mathlib.Omega.{arith}
+use lib.Dec.{eqb}
+use lib.Ieee.{Float}
+use lib.ListN.{length, getD, length-set, replicate, length-replicate, getD-replicate}
+use Rattle.speculative.specs.Drafter.{isBlock, stillDrafting}
+use Rattle.speculative.specs.declared.drafter.Rates.{Rates}
+use Rattle.speculative.specs.declared.drafter.DrafterCost.{DrafterCost}
+use Rattle.verdict.specs.Decision.{Sums, slotAt, removalAt}
+use Rattle.verdict.specs.Price.{verifyCost}
+use Rattle.slots.specs.Slots.{starts, upTo, downFrom, stacks, sum, survival}
+use Rattle.slots.specs.Gate.{Chosen}
+use Rattle.slots.proofs.Stacked.{starts-length}
+use Rattle.block.specs.Block.{addSlot, blockFrom, blockWidths, blockGate}
+use Rattle.trim.specs.Ragged.{marginOf, fullDraft, dropSlot, passOf, raggedWidths, raggedGate}
+use Rattle.gates_laws.proofs.Widths.{Under, under-lengths, greedy-keeps, block-weighed, block-widths, ragged-weighed, ragged-widths, fewer}
+use Rattle.gating.specs.Chains.{gateAt}
+use Rattle.deciding.specs.Deciding.{totalOf}
+
+either : (b : Bool) (P : Chosen → Type 0) (x y : Chosen) → P x → P y → P (cond b x y)
+either true P x y p q = p
+either false P x y p q = q
+
+-- ---- a width for each sequence
+
+module _ (price : Float → Float) (chains : List Float) where
+  from-each : (depth : ℕ) (sums : Sums) (lengths : List ℕ) → length (blockFrom price chains depth sums lengths .widths) ≡ length lengths
+  unfolding blockFrom addSlot
+  from-each depth sums lengths =
+      greedy-keeps (λ a k r. slotAt price (a .sums) (survival chains k (getD (a .widths) k 0))) (λ w. w + 1)
+      (λ ws s. length ws ≡ length lengths) (λ ws. length ws ≡ length lengths) (λ ws s p. p) (λ ws s k r e p. simp length-set p) (λ ws s k p. p)
+      (record { sums = sums; widths = replicate (length lengths) 0 }) (stacks upTo (starts depth lengths) chains) (length-replicate {A = ℕ} (length lengths) 0)
+
+  block-each : (lengths : List ℕ) (curve : List Float) (depth : ℕ) (kind : DrafterCost) (rates : Rates) (loaded : List Float)
+      → length (blockGate price chains lengths curve depth kind rates loaded .widths) ≡ length lengths
+  unfolding blockGate blockWidths
+  block-each lengths curve depth kind rates loaded =
+      either (eqb depth 0) (λ g. length (g .widths) ≡ length lengths) _ _ (length-replicate {A = ℕ} (length lengths) 0) (from-each depth _ lengths)
+
+  trimmed-each : (pass : ℕ → Float) (depth : ℕ) (ws : List ℕ) → length (raggedWidths pass price chains depth ws .widths) ≡ length ws
+  unfolding raggedWidths dropSlot fullDraft
+  trimmed-each pass depth ws =
+      greedy-keeps
+      (λ a k r. removalAt price (a .sums) (survival chains k (getD (a .widths) k 0 - 1)) (marginOf pass (stillDrafting (a .widths) (getD (a .widths) k 0))))
+      (λ w. w - 1) (λ vs s. length vs ≡ length ws) (λ vs. length vs ≡ length ws) (λ vs s p. p) (λ vs s k r e p. simp length-set p) (λ vs s k p. p)
+      (fullDraft pass chains depth ws) (stacks downFrom ws chains) refl
+
+  ragged-each : (lengths : List ℕ) (depth : ℕ) (kind : DrafterCost) (rates : Rates) (loaded : List Float)
+      → length (raggedGate price chains lengths depth kind rates loaded .widths) ≡ length lengths
+  unfolding raggedGate
+  ragged-each lengths depth kind rates loaded =
+      either (eqb depth 0) (λ g. length (g .widths) ≡ length lengths) _ _ (length-replicate {A = ℕ} (length lengths) 0)
+      (trimmed-each (passOf kind rates loaded) depth (starts depth lengths) ∙ starts-length depth lengths)
+
+-- ---- of chains that are all as long as gamma
+
+pub record Narrow (n gamma : ℕ) (ws : List ℕ) : Type 0 where
+  pub count : length ws ≡ n
+  pub each : (k : ℕ) → k < n → getD ws k 0 ≤ gamma
+
+sum-equal : (gamma n : ℕ) → sum (replicate n gamma) ≡ n * gamma
+sum-equal gamma zero = omega arith
+sum-equal gamma (suc n) = omega (arith, sum-equal gamma n)
+
+module _ (n gamma : ℕ) where
+  narrow : (depth : ℕ) (ws : List ℕ) → length ws ≡ length (replicate n gamma) → Under (starts depth (replicate n gamma)) ws → Narrow n gamma ws
+  narrow depth ws e h = record {
+    count = e ∙ length-replicate n gamma;
+    each = λ k l. omega (arith, under-lengths depth (replicate n gamma) ws h k (omega (arith, length-replicate n gamma)), getD-replicate n k gamma 0 l);
+  }
+
+  pub gate-narrow : (kind : DrafterCost) (rates : Rates) (loaded curve chains : List Float) (depth : ℕ) → Narrow n gamma (gateAt kind rates loaded curve n gamma chains depth .widths)
+  gate-narrow kind rates loaded curve chains depth =
+      let price : Float → Float = verifyCost curve n in
+      let lengths : List ℕ = replicate n gamma in
+      either (isBlock kind) (λ g. Narrow n gamma (g .widths)) (blockGate price chains lengths curve depth kind rates loaded) (raggedGate price chains lengths depth kind rates loaded)
+      (narrow depth _ (block-each price chains lengths curve depth kind rates loaded) (block-widths price chains lengths curve depth kind rates loaded))
+      (narrow depth _ (ragged-each price chains lengths depth kind rates loaded) (ragged-widths price chains lengths depth kind rates loaded))
+
+  -- no more slots are weighed than the chains have
+  pub gate-weighed : (kind : DrafterCost) (rates : Rates) (loaded curve chains : List Float) (depth : ℕ) → gateAt kind rates loaded curve n gamma chains depth .weighed ≤ n * gamma
+  gate-weighed kind rates loaded curve chains depth =
+      let price : Float → Float = verifyCost curve n in
+      let lengths : List ℕ = replicate n gamma in
+      either (isBlock kind) (λ g. g .weighed ≤ n * gamma) (blockGate price chains lengths curve depth kind rates loaded) (raggedGate price chains lengths depth kind rates loaded)
+      (omega (arith, block-weighed price chains lengths curve depth kind rates loaded, fewer depth lengths, sum-equal gamma n))
+      (omega (arith, ragged-weighed price chains lengths depth kind rates loaded, fewer depth lengths, sum-equal gamma n))
+
+-- ---- together
+
+pub total-narrow : (gamma : ℕ) (ws : List ℕ) (n : ℕ) → Narrow n gamma ws → totalOf ws ≤ n * gamma
+unfolding totalOf
+total-narrow gamma [] n h = zero-le
+total-narrow gamma (w ∷ ws) zero h = absurd (let z = h .count in omega arith)
+total-narrow gamma (w ∷ ws) (suc n) h =
+    let later : totalOf ws ≤ n * gamma = total-narrow gamma ws n (record { count = let z = h .count in omega arith; each = λ k l. h .each (suc k) (suc-le-suc l) }) in
+    omega (arith, h .each 0 (suc-le-suc zero-le))
+
+pub equal-narrow : (n w : ℕ) → Narrow n w (replicate n w)
+equal-narrow n w = record { count = length-replicate n w; each = λ k l. omega (arith, getD-replicate n k w 0 l) }

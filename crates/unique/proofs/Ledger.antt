@@ -1,0 +1,51 @@
+-- The contracts of `ledger` leave one outcome each. Assumes nothing.
+use mathlib.Core.List.{List}
+use mathlib.Core.Path.{_≡_}
+use Prim.Native.Nat.{ℕ}
+use lib.Ieee.{Float}
+use Rattle.ledger.specs.Calls.{collected, countOf, dayFigure, emptied, recorded, seriesRead, stepJudged, withdrawn, workerJudged, workerOf}
+use Rattle.ledger.specs.declared.answer.Answer.{Answer}
+use Rattle.ledger.specs.declared.answer.Count.{Count}
+use Rattle.ledger.specs.declared.answer.Decision.{Decision}
+use Rattle.ledger.specs.declared.answer.Figure.{Figure}
+use Rattle.ledger.specs.declared.answer.Found.{Found}
+use Rattle.ledger.specs.declared.answer.Stall.{Stall}
+use Rattle.ledger_rows.specs.Layout.{available, secondsHeld, workersHeld}
+use Rattle.unique.specs.Only.{OnlyFour, OnlyOne, OnlyTwo}
+use Rattle.unique.proofs.Law.{once, pair-once, tuple-once}
+
+pub fresh-once : (storage : List ℕ) → OnlyTwo (λ (r : Answer) (storage′ : List ℕ). (r, storage′) ≡ emptied storage)
+fresh-once storage x b y c p q = pair-once p q
+
+pub judge-step-once : (storage : List ℕ) (second : ℕ) → OnlyOne (λ (r : ℕ). r ≡ stepJudged storage second)
+judge-step-once storage second x y p q = once p q
+
+pub judge-worker-once : (storage : List ℕ) (a b : ℕ) → OnlyOne (λ (r : ℕ). r ≡ workerJudged storage a b)
+judge-worker-once storage a b x y p q = once p q
+
+pub record-once : (storage : List ℕ) (second drafts sequences : ℕ) (change : Decision) → OnlyTwo (λ (r : Answer) (storage′ : List ℕ). (r, storage′) ≡ recorded storage second drafts sequences change)
+record-once storage second drafts sequences change x b y c p q = pair-once p q
+
+pub collect-once : (storage : List ℕ) (a b : ℕ) → OnlyTwo (λ (r : Stall) (storage′ : List ℕ). (r, storage′) ≡ collected storage a b)
+collect-once storage a b x left y c p q = pair-once p q
+
+pub withdraw-once : (storage : List ℕ) → OnlyTwo (λ (r : Answer) (storage′ : List ℕ). (r, storage′) ≡ withdrawn storage)
+withdraw-once storage x b y c p q = pair-once p q
+
+pub available-once : (storage : List ℕ) → OnlyOne (λ (r : Count). r ≡ countOf storage (available storage))
+available-once storage x y p q = once p q
+
+pub seconds-held-once : (storage : List ℕ) → OnlyOne (λ (r : Count). r ≡ countOf storage (secondsHeld storage))
+seconds-held-once storage x y p q = once p q
+
+pub workers-held-once : (storage : List ℕ) → OnlyOne (λ (r : Count). r ≡ countOf storage (workersHeld storage))
+workers-held-once storage x y p q = once p q
+
+pub worker-once : (storage : List ℕ) (a b : ℕ) → OnlyOne (λ (r : Found). r ≡ workerOf storage a b)
+worker-once storage a b x y p q = once p q
+
+pub series-once : (storage seconds : List ℕ) («mean_drafts» «mean_batches» : List Float) → OnlyFour (λ (r : Count) (seconds′ : List ℕ) («mean_drafts′» : List Float) («mean_batches′» : List Float). (r, seconds′, «mean_drafts′», «mean_batches′») ≡ seriesRead storage seconds «mean_drafts» «mean_batches»)
+series-once storage seconds «mean_drafts» «mean_batches» x b c d y b′ c′ d′ p q = tuple-once p q
+
+pub day-figure-once : (storage : List ℕ) → OnlyOne (λ (r : Figure). r ≡ dayFigure storage)
+day-figure-once storage x y p q = once p q
