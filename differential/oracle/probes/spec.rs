@@ -105,7 +105,6 @@ pub fn choose(
     (width, held(&states[&worker]))
 }
 
-
 impl SpecPlanner {
     /// A planner over a bank and a table that are held already: no path is read.
     pub fn over(
@@ -128,6 +127,37 @@ impl SpecPlanner {
             depth_buckets: BTreeMap::new(),
             depth_current: None,
             agg_switch: HashMap::new(),
+        }
+    }
+
+    /// The same planner under other settings, over another bank and another table: what it holds
+    /// stays.
+    pub fn under(
+        self,
+        cfg: SpeculativeConfig,
+        bank: Option<Arc<TraceBank>>,
+        table: Option<MeasuredCostTable>,
+    ) -> Self {
+        Self {
+            depth_buckets: self.depth_buckets,
+            depth_current: self.depth_current,
+            agg_switch: self.agg_switch,
+            ..Self::over(cfg, bank, table)
+        }
+    }
+
+    pub fn seconds_held(&self) -> usize {
+        let is_new = |current: (u64, _)| !self.depth_buckets.contains_key(&current.0);
+        self.depth_buckets.len() + usize::from(self.depth_current.is_some_and(is_new))
+    }
+
+    /// The steps of a second, where it is held.
+    pub fn steps_in(&self, second: u64) -> Option<u64> {
+        let kept = self.depth_buckets.get(&second).map(|sums| sums.2);
+        let current = self.depth_current.filter(|current| current.0 == second);
+        match current {
+            Some((_, sums)) => Some(sums.2 + kept.unwrap_or(0)),
+            None => kept,
         }
     }
 

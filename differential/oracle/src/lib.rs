@@ -7,6 +7,7 @@ extern crate std_lent as std;
 include!(concat!(env!("OUT_DIR"), "/modules.rs"));
 
 pub mod agreement;
+pub mod clock;
 pub mod drafter;
 pub mod drafter_values;
 pub mod lent_model;
@@ -14,6 +15,7 @@ pub mod model;
 pub mod plans;
 pub mod range;
 pub mod refusals;
+pub mod storage;
 pub mod unchanged;
 
 pub mod request {

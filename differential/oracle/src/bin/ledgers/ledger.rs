@@ -4,6 +4,7 @@ use crate::afresh::Afresh;
 use crate::call::{Call, Outcome};
 use crate::worker::Worker;
 use numbers::second::second;
+use oracle::clock::end_in;
 use oracle::simulation::spec::probe::Record;
 use std::collections::BTreeMap;
 
@@ -212,12 +213,6 @@ fn take_one<Key: Ord>(counts: &mut BTreeMap<Key, u64>, key: Key) {
     if *count == 0 {
         counts.remove(&key);
     }
-}
-
-/// The bits of an end time in a second below 2^53.
-pub fn end_in(second: u64) -> u64 {
-    assert!(second < 1 << 53, "a second that no end time is exactly");
-    (second as f64).to_bits()
 }
 
 #[cfg(test)]

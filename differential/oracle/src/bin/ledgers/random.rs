@@ -1,9 +1,10 @@
 //! Random sequences from a seed, without end.
 use crate::call::Call;
-use crate::drawing::{drafts, sequences, target, workers, Calls, Clock};
+use crate::drawing::{drafts, sequences, target, workers, Calls};
 use crate::sequence::{Sequence, MOST_SLOTS, ROOM, WHOLE};
 use crate::sequence_case::SequenceCase;
 use numbers::dice::Dice;
+use oracle::clock::Clock;
 
 const MOST_WORKERS: usize = 256;
 const MOST_SECONDS: usize = 4096;

@@ -9,8 +9,9 @@ use numbers::second::second;
 use numbers::word_case::WordCase;
 use oracle::simulation::spec::probe::Record;
 
-/// The words that a planner takes, and those that the replaying program has.
-pub const ROOM: usize = 18_308;
+pub use oracle::storage::ROOM;
+
+/// The words that the replaying program has.
 pub const WHOLE: usize = ROOM + 8;
 
 /// What a word of the storage holds before the first call.

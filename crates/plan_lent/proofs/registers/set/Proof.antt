@@ -1,0 +1,68 @@
+-- `registers::set` ends. Assumes nothing.
+use mathlib.Core.Path.{_≡_}
+use Prim.Native.Nat.{_≤_, _-_}
+use lib.ListN.{length}
+use borrow.Author.Needs.{needs}
+use Rattle.plan_lent.proofs.registers.set.Statement.{statement}
+use Rattle.plan_lent.proofs.registers.set.Tie as tie
+
+abbrev Inv-loop : tie.InvT-loop
+Inv-loop call registers₀ first k₀ registers k = (2 ≤ k) × (first ≤ 32) × (length registers ≡ length registers₀)
+
+abbrev μ-loop : tie.MeasureT-loop
+μ-loop call registers₀ first k₀ registers k = length call - k
+
+least-at-requires : tie.Need-least-at-requires Inv-loop μ-loop
+least-at-requires c κs = search needs
+
+loop-holds : tie.Need-loop-holds Inv-loop μ-loop
+loop-holds c = search needs
+
+sub-put : tie.Need-sub-put Inv-loop μ-loop
+sub-put c = search needs
+
+add-put : tie.Need-add-put Inv-loop μ-loop
+add-put c = search needs
+
+mul-put : tie.Need-mul-put Inv-loop μ-loop
+mul-put c = search needs
+
+shared-slice-read-put : tie.Need-shared-slice-read-put Inv-loop μ-loop
+shared-slice-read-put c = search needs
+
+put-requires : tie.Need-put-requires Inv-loop μ-loop
+put-requires c κs = search needs
+
+add-k : tie.Need-add-k Inv-loop μ-loop
+add-k c = search needs
+
+loop-less : tie.Need-loop-less Inv-loop μ-loop
+loop-less c = search needs
+
+loop-again : tie.Need-loop-again Inv-loop μ-loop
+loop-again c = search needs
+
+same-length : tie.Need-same-length Inv-loop μ-loop
+same-length c = search needs
+
+returns : tie.Need-returns Inv-loop μ-loop
+returns c = search needs
+
+pub set-spec : {M : Type 1} → statement M
+set-spec =
+    tie.close
+    (tie.spec
+    Inv-loop
+    μ-loop
+    least-at-requires
+    loop-holds
+    sub-put
+    add-put
+    mul-put
+    shared-slice-read-put
+    put-requires
+    add-k
+    loop-less
+    loop-again
+    same-length
+    returns)

@@ -1,0 +1,125 @@
+//! Random planners from a seed, without end.
+use crate::damages::{damaged, damaged_by, SORTS};
+use crate::full::{full_second, full_seconds, full_workers};
+use crate::planner_case::PlannerCase;
+use crate::scene::Scene;
+use crate::script::Script;
+use crate::world::{Policy, POLICIES};
+use crate::worlds::{self, Shape};
+use numbers::dice::Dice;
+use std::rc::Rc;
+
+/// The sentence that says the space.
+pub fn space(seed: u64) -> String {
+    format!(
+        "space: random planners of up to 60 calls, over all policies, models, drafters and both \
+         sources of prices, with altered settings, clocks that go back, end times of any pattern and \
+         withdrawals; others of damaged plans, of any refusal; some with 65,536 rounds and 4,096 rows, \
+         with 4,096 seconds, with 256 workers or with 1,000,000 steps in a second; seed {seed}"
+    )
+}
+
+pub fn cases(seed: u64) -> impl Iterator<Item = PlannerCase> {
+    let mut dice = Dice::new(seed);
+    std::iter::repeat_with(move || case(&mut dice))
+}
+
+/// Four planners to one with damaged plans.
+fn case(dice: &mut Dice) -> PlannerCase {
+    let shape = Shape::random(dice);
+    match dice.below(1_000) {
+        0 if dice.once_in(100) => full_second(dice.between(999_998, 1_000_001), dice),
+        0 => full_seconds(dice.between(4_093, 4_098), dice),
+        1 | 2 => full_workers(dice.between(253, 258), dice.once_in(3), dice),
+        3..=202 => damages(shape, dice.between(20, 30), dice),
+        _ => whole(shape, dice.pick(&[1, 3, 8, 12, 20, 60]), dice),
+    }
+}
+
+/// A planner of so many calls.
+pub fn whole(shape: Shape, calls: usize, dice: &mut Dice) -> PlannerCase {
+    let policy = dice.pick(&POLICIES);
+    under(Scene::new(shape, policy, dice), calls, dice)
+}
+
+pub fn under(mut scene: Scene, calls: usize, dice: &mut Dice) -> PlannerCase {
+    let mut script = Script::new();
+    for _ in 0..calls {
+        if script.is_long() {
+            break;
+        }
+        scene.call(&mut script, dice);
+    }
+    scene.read(&mut script);
+    script.case(b'p')
+}
+
+/// A planner of so many damaged plans, with sound ones between them.
+pub fn damages(shape: Shape, plans: usize, dice: &mut Dice) -> PlannerCase {
+    let policy = dice.pick(&POLICIES);
+    let is_full = false;
+    let mut scene = Scene::new(Shape { is_full, ..shape }, policy, dice);
+    let mut script = Script::new();
+    for _ in 0..plans {
+        if script.is_long() {
+            break;
+        }
+        let plan = scene.plan(dice);
+        let plan = match dice.below(12) {
+            0 => plan,
+            _ => damaged(&plan, dice),
+        };
+        script.plan(plan);
+    }
+    scene.read(&mut script);
+    script.case(b'd')
+}
+
+/// A planner of a damaged plan of each sort, with a bank where that is said.
+pub fn each_damage(has_bank: bool, policy: Policy, dice: &mut Dice) -> PlannerCase {
+    let shape = Shape::small(dice);
+    let mut scene = Scene::new(shape, policy, dice);
+    while scene.world.is_trace() != has_bank || scene.world.gamma == 0 {
+        scene = Scene::new(Shape::small(dice), policy, dice);
+    }
+    let mut script = Script::new();
+    let world = Rc::clone(&scene.world);
+    for sort in 0..SORTS {
+        let plan = worlds::plan(&world, 1, dice);
+        script.plan(damaged_by(sort, &plan, dice));
+    }
+    scene.read(&mut script);
+    script.case(b'd')
+}
+
+/// A planner whose gates have slots to weigh.
+pub fn gating(calls: usize, dice: &mut Dice) -> PlannerCase {
+    let shape = Shape {
+        gamma: 3,
+        most: 3,
+        is_full: false,
+    };
+    let mut scene = Scene::new(shape, Policy::GatedBudget, dice);
+    while !scene.world.is_trace() {
+        scene = Scene::new(shape, Policy::GatedBudget, dice);
+    }
+    under(scene, calls, dice)
+}
+
+/// A planner of one worker whose width changes cost something.
+pub fn switching(calls: usize, dice: &mut Dice) -> PlannerCase {
+    let shape = Shape {
+        gamma: 4,
+        ..Shape::small(dice)
+    };
+    let mut scene = Scene::new(shape, Policy::GatedAggregate, dice);
+    while !scene.world.is_trace() {
+        scene = Scene::new(shape, Policy::GatedAggregate, dice);
+    }
+    let mut world = (*scene.world).clone();
+    world.cooldown = dice.pick(&[0, 2]);
+    world.cost_ms = 33.3f64.to_bits();
+    scene.world = Rc::new(world);
+    scene.workers.truncate(1);
+    under(scene, calls, dice)
+}

@@ -1,0 +1,79 @@
+//! The recorded sample: the same cases on every machine.
+use crate::full::{full_second, full_seconds, full_workers};
+use crate::planner_case::PlannerCase;
+use crate::random::{damages, each_damage, gating, switching, under};
+use crate::scene::Scene;
+use crate::world::POLICIES;
+use crate::worlds::Shape;
+use numbers::dice::Dice;
+
+const SEED: u64 = 3;
+
+/// The sentence that says the space.
+pub fn space() -> String {
+    format!(
+        "space: planners of all policies, models, drafters and both sources of prices, and damaged \
+         plans of every refusal, small ones; one with 256 workers, one with 4,096 seconds and one with \
+         1,000,000 steps in a second; seed {SEED}"
+    )
+}
+
+pub fn recorded() -> Vec<PlannerCase> {
+    let dice = &mut Dice::new(SEED);
+    let mut cases = Vec::new();
+    for turn in 0..8 {
+        for policy in POLICIES {
+            let scene = Scene::new(Shape::small(dice), policy, dice);
+            cases.push(under(scene, dice.between(3, 8), dice));
+        }
+        cases.push(gating(4, dice));
+        cases.push(switching(8, dice));
+        if turn % 2 == 0 {
+            cases.push(damages(Shape::small(dice), 8, dice));
+        }
+        cases.push(large(turn, dice));
+    }
+    cases.push(full_second(1_000_000, dice));
+    cases
+}
+
+/// One that is full, or one that goes through every damage.
+fn large(turn: usize, dice: &mut Dice) -> PlannerCase {
+    match turn {
+        0..=3 => each_damage(true, POLICIES[turn], dice),
+        4 | 5 => each_damage(false, POLICIES[turn - 3], dice),
+        6 => full_workers(256, true, dice),
+        _ => full_seconds(4_096, dice),
+    }
+}
+
+#[cfg(test)]
+mod tests {
+    use super::*;
+    use crate::met::Met;
+    use numbers::sampling::assert_steady;
+
+    #[test]
+    fn the_sample_is_the_same_each_time_and_of_the_size_wanted() {
+        assert_steady(recorded, 58..=70, 300_000);
+    }
+
+    #[test]
+    fn every_refusal_policy_model_and_drafter_is_met() {
+        let mut met = Met::default();
+        for case in recorded() {
+            met.add(&case.met);
+        }
+        let refused: Vec<usize> = (0..22).filter(|&n| met.refused[n] > 0).collect();
+        assert_eq!(refused, [11, 12, 13, 14, 15, 16, 17, 18, 19]);
+        let counts = [
+            &met.policies[..],
+            &met.models,
+            &met.drafters,
+            &met.prices,
+            &met.switching,
+            &[met.empty, met.weighed],
+        ];
+        assert!(counts.concat().iter().all(|&count| count > 0), "{met}");
+    }
+}
