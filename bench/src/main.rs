@@ -14,10 +14,14 @@ mod ledger;
 mod numbers;
 mod ours;
 #[cfg(feature = "rust")]
+mod plan;
+#[cfg(feature = "rust")]
 mod plans;
 mod side;
 #[cfg(feature = "rust")]
 mod tables;
+#[cfg(feature = "rust")]
+mod whole;
 
 fn main() {
     numbers::decimals();
@@ -33,4 +37,5 @@ fn against_the_files() {
     goodput::goodput();
     gates::both();
     ledger::ledger();
+    whole::whole();
 }

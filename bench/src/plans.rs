@@ -263,6 +263,10 @@ impl Storage {
         Storage(words)
     }
 
+    pub fn words(&mut self) -> &mut [u64] {
+        &mut self.0
+    }
+
     /// Counts a plan of no worker; answers the number of the refusal, 0 for none.
     pub fn record(&mut self, second: u64, drafts: u64, sequences: u64) -> u64 {
         let Storage(words) = self;

@@ -1,1 +1,2 @@
 mod Drafters
+mod Cases

@@ -11,7 +11,7 @@ ghost use Rattle.gates.specs.Entry.{raggedAnswer, blockAnswer};
 ghost use Rattle.bench_plans.specs.Figures.{drafterOf, ratesOf, weighedOf, depthOf};
 
 // The drafter of a kind: 0 a fraction, 1 an autoregressive head, any other a block head. `a` and `b` are its sizes, the rest its counts.
-fn drafter_of(kind: u32, a: f64, b: f64, c: u32, d: u32, e: u32) -> DrafterCost
+pub fn drafter_of(kind: u32, a: f64, b: f64, c: u32, d: u32, e: u32) -> DrafterCost
     ensures { λ r. ⌜ r ≡ drafterOf kind a b c d e ⌝ }
 {
     if kind == 0 {
@@ -33,7 +33,7 @@ fn drafter_of(kind: u32, a: f64, b: f64, c: u32, d: u32, e: u32) -> DrafterCost
 }
 
 // The rates, where the cost table needs no correction.
-fn rates_of(peak: f64, bw: f64) -> Rates
+pub fn rates_of(peak: f64, bw: f64) -> Rates
     ensures { λ r. ⌜ r ≡ ratesOf peak bw ⌝ }
 {
     Rates {

@@ -1,9 +1,9 @@
--- `planner::ledger_number` meets its contract: each arm has its case. Assumes nothing.
+-- `kept::ledger_number` meets its contract: each arm has its case. Assumes nothing.
 use mathlib.Core.Path.{sym, ap}
 use Rattle.bench_plans.specs.Figures.{ledgerNumber}
 use borrow.Author.Needs.{needs}
-use Rattle.bench_plans.proofs.planner.ledger_number.Statement.{statement}
-use Rattle.bench_plans.proofs.planner.ledger_number.Tie as tie
+use Rattle.bench_plans.proofs.kept.ledger_number.Statement.{statement}
+use Rattle.bench_plans.proofs.kept.ledger_number.Tie as tie
 
 enum-told : tie.Need-enum-told
 enum-told c = search needs

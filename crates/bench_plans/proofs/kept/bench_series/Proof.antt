@@ -6,8 +6,8 @@ use lib.Ieee.{Float}
 use Rattle.ledger.specs.declared.answer.Count.{Count}
 use Rattle.bench_plans.specs.Figures.{countFigure}
 use borrow.Author.Needs.{needs}
-use Rattle.bench_plans.proofs.planner.bench_series.Statement.{statement}
-use Rattle.bench_plans.proofs.planner.bench_series.Tie as tie
+use Rattle.bench_plans.proofs.kept.bench_series.Statement.{statement}
+use Rattle.bench_plans.proofs.kept.bench_series.Tie as tie
 
 abbrev Series : Type 0
 Series = Count × List ℕ × List Float × List Float

@@ -5,8 +5,8 @@ use Prim.Native.Nat.{ℕ}
 use Rattle.ledger.specs.declared.answer.Answer.{Answer}
 use Rattle.bench_plans.specs.Figures.{ledgerNumber}
 use borrow.Author.Needs.{needs}
-use Rattle.bench_plans.proofs.planner.bench_record.Statement.{statement}
-use Rattle.bench_plans.proofs.planner.bench_record.Tie as tie
+use Rattle.bench_plans.proofs.kept.bench_record.Statement.{statement}
+use Rattle.bench_plans.proofs.kept.bench_record.Tie as tie
 
 record-requires : tie.Need-record-requires
 record-requires c κs = search needs

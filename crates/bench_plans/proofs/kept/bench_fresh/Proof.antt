@@ -5,8 +5,8 @@ use Prim.Native.Nat.{ℕ}
 use Rattle.ledger.specs.declared.answer.Answer.{Answer}
 use Rattle.bench_plans.specs.Figures.{ledgerNumber}
 use borrow.Author.Needs.{needs}
-use Rattle.bench_plans.proofs.planner.bench_fresh.Statement.{statement}
-use Rattle.bench_plans.proofs.planner.bench_fresh.Tie as tie
+use Rattle.bench_plans.proofs.kept.bench_fresh.Statement.{statement}
+use Rattle.bench_plans.proofs.kept.bench_fresh.Tie as tie
 
 fresh-requires : tie.Need-fresh-requires
 fresh-requires c κs = search needs
