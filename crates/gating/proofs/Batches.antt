@@ -8,6 +8,7 @@ use native.Mathlib.Omega.{arith}
 use lib.ListN.{length, take, getD, replicate, length-append, length-replicate, getD-replicate}
 use lib.Seq.{sets, sets-eq, take-at, length-take-le}
 use lib.Ieee.{Float}
+use Rattle.float.specs.Floats.{f0}
 use Rattle.acceptance.specs.declared.AcceptanceModel.{AcceptanceModel}
 use Rattle.acceptance.specs.declared.AcceptanceModel.the-variants.{Constant, PerPosition, Trace}
 use Rattle.speculative.specs.Drafter.{isBlock, loadedAt}
@@ -21,7 +22,7 @@ use Rattle.slots.specs.Gate.{Chosen}
 use Rattle.block.specs.Block.{blockGate}
 use Rattle.trim.specs.Ragged.{raggedGate}
 use Rattle.settings.specs.Settings.{isTrace}
-use Rattle.rounds.specs.Signals.{slots, valuesFrom, modelChain, sameChains, roundChain, roundChains}
+use Rattle.rounds.specs.Signals.{slots, Zeros, valuesFrom, modelChain, sameChains, roundChain, roundChains}
 use Rattle.rounds.proofs.Parts.{values-length}
 use Rattle.rounds.proofs.Laying.{slots-length, chain-length, round-length}
 use Rattle.gating.specs.Chains.{chainsBy, chainsExpected, gateAt}
@@ -120,6 +121,12 @@ second b x y e = rw e
 -- an array of one value
 pub all-same : (m v : ℕ) → replicate m v ≡ replicate (length (replicate m v)) v
 all-same m v = ap (λ (k : ℕ). replicate k v) (sym (length-replicate m v))
+
+-- in an array that is new
+pub all-zeros : (n : ℕ) → Zeros (replicate n f0)
+all-zeros zero i = refl
+all-zeros (suc n) zero = refl
+all-zeros (suc n) (suc i) = all-zeros n i
 
 pub front-long : (m : ℕ) (l : List Float) → m ≤ length l → m ≤ length (take m l)
 front-long m l h = omega (arith, length-take-le m l h)

@@ -11,6 +11,7 @@ ghost use lib.ListN.{length, replicate};
 ghost use lib.Seq.{sets};
 ghost use mathlib.Core.Bool.{true};
 ghost use Rattle.settings.specs.Settings.{isTrace};
+ghost use Rattle.rounds.specs.Signals.{Zeros};
 ghost use Rattle.slots.specs.Slots.{Fits};
 ghost use Rattle.slots.specs.Gate.{Chosen};
 ghost use Rattle.gating.specs.Chains.{chainsBy};
@@ -22,7 +23,8 @@ pub struct Gated {
     pub weighed: usize,
 }
 
-// The chains of the batch laid at the front: those of the drawn rounds, or the model's for each sequence.
+// The chains of the batch laid at the front of slots that all hold 0.0: those of the drawn rounds, or the model's for each
+// sequence.
 fn lay_chains(
     settings: Settings,
     ask: Ask,
@@ -32,7 +34,7 @@ fn lay_chains(
     indices: &[u32],
     chains: &mut [f64],
 )
-    requires { ⌜ (gamma ≤ 64) × (ask .sequences ≤ 1024) × (ask .sequences * 64 ≤ length (now chains)) ⌝ }
+    requires { ⌜ (gamma ≤ 64) × (ask .sequences ≤ 1024) × (ask .sequences * 64 ≤ length (now chains)) × Zeros (now chains) ⌝ }
     requires { ⌜ (isTrace (settings .model) ≡ true → ask .sequences ≤ length (now indices)) ⌝ }
     ensures { λ _. ⌜ now (chains .exit) ≡ sets (now (chains .entry)) 0 (chainsBy (settings .model) (now (positions .entry)) (now (signals .entry)) (ask .depth) (now (indices .entry)) (ask .sequences) gamma) ⌝ }
 {
@@ -109,7 +111,7 @@ fn gate_laid(
     Gated { depth, weighed: 0 }
 }
 
-// The chains are laid into a room for them, and the lengths are there.
+// The chains are laid into a room for them, which holds 0.0, and the lengths are there.
 fn gated_within(
     settings: Settings,
     ask: Ask,
@@ -125,7 +127,7 @@ fn gated_within(
     drafts: &mut [u32],
 ) -> Gated
     requires { ⌜ Batched settings ask gamma (now indices) (now curve) (now drafts) ⌝ }
-    requires { ⌜ (now lengths ≡ replicate (length (now lengths)) gamma) × (ask .sequences ≤ length (now lengths)) × (ask .sequences * 64 ≤ length (now chains)) ⌝ }
+    requires { ⌜ (now lengths ≡ replicate (length (now lengths)) gamma) × (ask .sequences ≤ length (now lengths)) × (ask .sequences * 64 ≤ length (now chains)) × Zeros (now chains) ⌝ }
     ensures { λ r. ⌜ record { depth = r .depth; weighed = r .weighed; drafts = now (drafts .exit) } ≡ gateOver own (settings .drafter) (ask .rates) (now (loaded .entry)) (now (curve .entry)) (ask .sequences) gamma (chainsBy (settings .model) (now (positions .entry)) (now (signals .entry)) (ask .depth) (now (indices .entry)) (ask .sequences) gamma) (now (drafts .entry)) ⌝ }
 {
     let n = ask.sequences as usize;
@@ -290,7 +292,8 @@ fn gated_more(
     )
 }
 
-// The batch's depth by its chains; where each sequence has its own draft, it is written.
+// The batch's depth by its chains; where each sequence has its own draft, it is written. `gated_more` is called from two places, so that
+// the compiler keeps it a call: the pages of its rooms, half a megabyte, are touched at each entry, and a small batch needs none of them.
 pub fn gate_batch(
     settings: Settings,
     ask: Ask,
@@ -320,11 +323,25 @@ pub fn gate_batch(
             drafts,
         );
     }
+    if own {
+        return gated_more(
+            settings,
+            ask,
+            gamma,
+            true,
+            positions,
+            loaded,
+            signals,
+            indices,
+            curve,
+            drafts,
+        );
+    }
     gated_more(
         settings,
         ask,
         gamma,
-        own,
+        false,
         positions,
         loaded,
         signals,

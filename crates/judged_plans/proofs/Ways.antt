@@ -1,12 +1,11 @@
 -- Each way through a plan, over plain variables. Assumes nothing.
 use mathlib.Core.Path.{_≡_, refl, sym, ap, _∙_}
 use mathlib.Core.Bool.{cond}
-use mathlib.Core.List.{List, [], _++_, append-nil}
+use mathlib.Core.List.{List, [], _++_}
 use Prim.Native.Nat.{ℕ, zero, suc, _≤_, _<_}
 use native.Mathlib.Nat.{not-suc-le-zero}
 use native.Mathlib.Omega.{arith}
-use lib.ListN.{length, take, drop, replicate, length-replicate, drop-of-length-le}
-use lib.Seq.{sets, length-take-le}
+use lib.ListN.{length, drop}
 use borrow.Author.Tests.{eq-eqb, ne-eqb}
 use Rattle.refusals.specs.Refusals.{firstOf}
 use Rattle.refusals.proofs.First.{goes-first, goes-next}
@@ -15,16 +14,15 @@ use Rattle.ledger_workers.specs.Workers.{pastOf}
 use Rattle.ledger.specs.Calls.{stepJudged, workerJudged}
 use Rattle.settings.specs.declared.Settings.{Settings}
 use Rattle.settings.specs.Settings.{settingsRefusal}
-use Rattle.rounds.specs.Drawing.{Batch, drawnOver}
+use Rattle.rounds.specs.Drawing.{Batch}
 use Rattle.rounds.specs.declared.drawing.Drawn.{Drawn}
 use Rattle.rounds.specs.declared.drawing.Drawn.the-variants.{Used, Refused as NotDrawn}
 use Rattle.asking.specs.declared.Ask.{Ask}
 use Rattle.asking.specs.Asked.{Lent, askedRefusal}
 use Rattle.deciding.specs.Deciding.{decidedBy}
 use Rattle.deciding.specs.Ready.{lentOf}
-use Rattle.planning.specs.Steps.{curveOf, drawn, drawnRefusal, signalsRefusal, best, putUnder}
+use Rattle.planning.specs.Steps.{unlessEither, drawnUnless, curveOf, drawn, drawnRefusal, signalsRefusal, best, putUnder}
 use Rattle.planning.specs.Acting.{Acted, actedBy, lentToDraw, decidedPriced}
-use Rattle.planning.proofs.Fronts.{front-is}
 use Rattle.planning.proofs.Batches.{all-drawn, refusal-numbered, draws-same}
 use Rattle.judged_plans.specs.declared.Planned.the-variants.{Plan, Refused}
 use Rattle.judged_plans.specs.Plan.{Left, heldRefusal, planRefusal, made, unlessRefused, nothingPlanned, somePlanned, planned}
@@ -34,8 +32,19 @@ use Rattle.judged_plans.proofs.Facts.{actLists, rules-priced}
 pub is-none : (r x : ℕ) → r ≡ x → r ≤ 0 → x ≡ 0
 is-none r x e h = let z : r ≡ 0 = omega arith in sym e ∙ z
 
-pub front-long : (n k : ℕ) → n ≤ k → length (take n (replicate {A = ℕ} k 0)) ≡ n
-front-long n k h = length-take-le n (replicate {A = ℕ} k 0) (omega (arith, length-replicate {A = ℕ} k 0))
+-- ---- answers of a draw
+two-answers : {A : Type 0} (used number : ℕ) → Used used ≡ NotDrawn number → A
+two-answers used number e = let z : _≡_ {A = ℕ} 0 1 = cc in absurd (let w : ⊥ = omega arith in w)
+
+same-number : (m n : ℕ) → NotDrawn m ≡ NotDrawn n → m ≡ n
+same-number m n e = cc
+
+-- all that was drawn stands at the front
+used-by : (new old : List ℕ) (answer : Drawn) (out : List ℕ) (x : Drawn) (late used : ℕ) → record { answer = answer; commits = out } ≡ unlessEither x late new old → answer ≡ Used used
+    → (Used used ≡ x) × (late ≡ 0) × (out ≡ new ++ drop (length new) old)
+used-by new old answer out (Used more) zero used d u = (sym u ∙ ap (λ (y : Batch). y .answer) d, refl, ap (λ (y : Batch). y .commits) d)
+used-by new old answer out (Used more) (suc late) used d u = two-answers used (suc late) (sym u ∙ ap (λ (y : Batch). y .answer) d)
+used-by new old answer out (NotDrawn number) late used d u = two-answers used number (sym u ∙ ap (λ (y : Batch). y .answer) d)
 
 module _ (s : Settings) (a : Ask) (l : Lent) (ws ds cs : List ℕ) where
   -- ---- a refusal leaves all as it was
@@ -72,59 +81,61 @@ module _ (s : Settings) (a : Ask) (l : Lent) (ws ds cs : List ℕ) where
   unfolding planRefusal
   asked-refused r e h = refused-is r _ _ (goes-first r _ _ e h) h
 
-  module _ (asked : askedRefusal s a l ws (length ds) (length cs) ≡ 0) where
-    -- ---- the rounds: `old` is what they are drawn into
-    module _ (answer : Drawn) (out old : List ℕ) (d : record { answer = answer; commits = out } ≡ drawnOver (drawn s a (lentToDraw (l .positions) (l .bankCommits) (l .draws) (l .indices))) old) where
-      pub answer-is : answer ≡ drawn s a l .answer
-      answer-is = ap (λ (b : Batch). b .answer) d ∙ ap (λ (b : Batch). b .answer) (draws-same s a l)
+  -- ---- the draws, and what is refused after them
+  refused-by : (new old : List ℕ) (answer : Drawn) (out : List ℕ) (x : Drawn) (late number : ℕ) → ((m : ℕ) → NotDrawn m ≡ x → 0 < m)
+      → record { answer = answer; commits = out } ≡ unlessEither x late new old → answer ≡ NotDrawn number
+      → (number ≡ firstOf (drawnRefusal s a l x) late) × (0 < number) × (out ≡ old)
+  refused-by new old answer out (Used more) zero number p d u = two-answers more number (sym (ap (λ (y : Batch). y .answer) d) ∙ u)
+  refused-by new old answer out (Used more) (suc late) number p d u =
+      let e : number ≡ suc late = same-number number (suc late) (sym u ∙ ap (λ (y : Batch). y .answer) d) in
+      (e, omega (arith, e), ap (λ (y : Batch). y .commits) d)
+  refused-by new old answer out (NotDrawn m) late number p d u =
+      let e : number ≡ m = same-number number m (sym u ∙ ap (λ (y : Batch). y .answer) d) in
+      let q : 0 < number = omega (arith, e, p m refl) in
+      (goes-first number m late e q, q, ap (λ (y : Batch). y .commits) d)
 
-      pub used-is : (used : ℕ) → answer ≡ Used used → Used used ≡ drawn s a l .answer
-      used-is used u = sym u ∙ answer-is
+  module _ (asked : askedRefusal s a l ws (length ds) (length cs) ≡ 0) (late : ℕ)
+      (h : late ≡ firstOf (signalsRefusal s a (lentOf [] [] (l .signals) [] (l .indices))) (firstOf (cond (putUnder (s .switch) (s .policy)) (workerJudged ws (a .a) (a .b)) 0) (stepJudged ws (secondOf (a .end)))))
+      (answer : Drawn) (out : List ℕ)
+      (d : record { answer = answer; commits = out } ≡ drawnUnless late (drawn s a (lentToDraw (l .positions) (l .bankCommits) (l .draws) (l .indices))) cs) where
+    late-is : late ≡ firstOf (signalsRefusal s a l) (heldRefusal s a l ws ds cs)
+    unfolding signalsRefusal
+    late-is = h
 
-      pub draws-refused : (number : ℕ) → answer ≡ NotDrawn number → unwritten number ≡ somePlanned s a l ws ds cs
+    drawn-is : record { answer = answer; commits = out } ≡ drawnUnless late (drawn s a l) cs
+    drawn-is = d ∙ ap (λ (b : Batch). drawnUnless late b cs) (draws-same s a l)
+
+    pub draw-refused : (number : ℕ) → answer ≡ NotDrawn number → record { answer = Refused number; storage = ws; drafts = ds; commits = out } ≡ somePlanned s a l ws ds cs
+    unfolding planRefusal
+    draw-refused number u =
+        let r = refused-by (drawn s a l .commits) cs answer out (drawn s a l .answer) late number (refusal-numbered s a l) drawn-is u in
+        let e = r .0 ∙ ap (firstOf (drawnRefusal s a l (drawn s a l .answer))) late-is ∙ goes-next 0 _ _ (sym asked) (omega arith) in
+        ap (λ (xs : List ℕ). record { answer = Refused number; storage = ws; drafts = ds; commits = xs }) (r .2) ∙ refused-is number _ _ e (r .1)
+
+    -- ---- a plan that is made
+    module _ (used : ℕ) (u : answer ≡ Used used) where
+      told : (Used used ≡ drawn s a l .answer) × (late ≡ 0) × (out ≡ drawn s a l .commits ++ drop (length (drawn s a l .commits)) cs)
+      told = used-by (drawn s a l .commits) cs answer out (drawn s a l .answer) late used drawn-is u
+
+      pub used-is : Used used ≡ drawn s a l .answer
+      used-is = told .0
+
+      pub none-late : firstOf (signalsRefusal s a l) (heldRefusal s a l ws ds cs) ≡ 0
+      none-late = sym late-is ∙ told .1
+
+      none-refused : planRefusal s a l ws ds cs ≡ 0
       unfolding planRefusal
-      draws-refused number u =
-          let h : NotDrawn number ≡ drawn s a l .answer = sym u ∙ answer-is in
-          let p = refusal-numbered s a l number h in
-          let f : number ≡ drawnRefusal s a l (drawn s a l .answer) = ap (drawnRefusal s a l) h in
-          refused-is number _ _ (goes-first number _ _ f p ∙ goes-next 0 _ _ (sym asked) (omega arith)) p
+      none-refused = sym (sym none-late ∙ goes-next 0 _ _ (ap (drawnRefusal s a l) used-is) (omega arith) ∙ goes-next 0 _ _ (sym asked) (omega arith))
 
-      pub commits-are : (used : ℕ) → answer ≡ Used used → length old ≡ a .sequences → out ≡ drawn s a l .commits
-      commits-are used u n =
-          let k = all-drawn s a l used (used-is used u) in
-          let xs = drawn s a l .commits in
-          let none : drop (length xs) old ≡ [] = drop-of-length-le old {i = length xs} (omega (arith, k, n)) in
-          ap (λ (b : Batch). b .commits) d ∙ ap (λ (b : Batch). sets old 0 (b .commits)) (draws-same s a l) ∙ front-is xs old (omega (arith, k, n)) ∙ ap (λ (r : List ℕ). xs ++ r) none ∙ append-nil xs
-
-    -- ---- what is refused once they are drawn
-    module _ (used : ℕ) (u : Used used ≡ drawn s a l .answer) (late : ℕ)
-        (h : late ≡ firstOf (signalsRefusal s a (lentOf [] [] (l .signals) [] (l .indices))) (firstOf (cond (putUnder (s .switch) (s .policy)) (workerJudged ws (a .a) (a .b)) 0) (stepJudged ws (secondOf (a .end))))) where
-      pub late-is : late ≡ firstOf (signalsRefusal s a l) (heldRefusal s a l ws ds cs)
-      unfolding signalsRefusal
-      late-is = h
-
-      plan-late : late ≡ planRefusal s a l ws ds cs
-      unfolding planRefusal
-      plan-late = late-is ∙ goes-next 0 _ _ (ap (drawnRefusal s a l) u) (omega arith) ∙ goes-next 0 _ _ (sym asked) (omega arith)
-
-      pub late-refused : 0 < late → unwritten late ≡ somePlanned s a l ws ds cs
-      late-refused p = refused-is late _ _ plan-late p
-
-      pub none-late : late ≤ 0 → firstOf (signalsRefusal s a l) (heldRefusal s a l ws ds cs) ≡ 0
-      none-late p = is-none late _ late-is p
-
-      -- ---- a plan that is made
-      pub plan-made : late ≤ 0 → settingsRefusal s (l .positions) ≡ 0 → (weighed : ℕ) (storage drafts out commits : List ℕ)
+      pub plan-made : settingsRefusal s (l .positions) ≡ 0 → (weighed : ℕ) (storage drafts : List ℕ)
           → record { weighed = weighed; drafts = drafts; storage = storage } ≡ actedBy a ws (decidedPriced s a (actLists l) (pastOf ws (a .a) (a .b)))
-          → out ≡ drawn s a l .commits → commits ≡ out ++ drop (length out) cs
-          → record { answer = Plan used weighed; storage = storage; drafts = drafts ++ drop (a .sequences) ds; commits = commits } ≡ somePlanned s a l ws ds cs
+          → record { answer = Plan used weighed; storage = storage; drafts = drafts ++ drop (a .sequences) ds; commits = out } ≡ somePlanned s a l ws ds cs
       unfolding made
-      plan-made p settled weighed storage drafts out commits act o c =
-          let d = decidedBy (best s a l) s a l (curveOf s a l) (s .policy) (pastOf ws (a .a) (a .b)) in
-          let done : record { weighed = weighed; drafts = drafts; storage = storage } ≡ actedBy a ws d = act ∙ ap (actedBy a ws) (rules-priced s a l ws ds cs asked used u (none-late p) settled) in
-          let n : length out ≡ a .sequences = ap length o ∙ all-drawn s a l used u in
-          let k : commits ≡ drawn s a l .commits ++ drop (a .sequences) cs = c ∙ ap (λ (i : ℕ). out ++ drop i cs) n ∙ ap (λ (xs : List ℕ). xs ++ drop (a .sequences) cs) o in
+      plan-made settled weighed storage drafts act =
+          let b = decidedBy (best s a l) s a l (curveOf s a l) (s .policy) (pastOf ws (a .a) (a .b)) in
+          let done : record { weighed = weighed; drafts = drafts; storage = storage } ≡ actedBy a ws b = act ∙ ap (actedBy a ws) (rules-priced s a l ws ds cs asked used used-is none-late settled) in
+          let k : out ≡ drawn s a l .commits ++ drop (a .sequences) cs = told .2 ∙ ap (λ (i : ℕ). drawn s a l .commits ++ drop i cs) (all-drawn s a l used used-is) in
           ap (λ (xs : List ℕ). record { answer = Plan used weighed; storage = storage; drafts = drafts ++ drop (a .sequences) ds; commits = xs }) k
           ∙ ap (λ (x : Acted). record { answer = Plan used (x .weighed); storage = x .storage; drafts = x .drafts ++ drop (a .sequences) ds; commits = drawn s a l .commits ++ drop (a .sequences) cs }) done
-          ∙ ap (λ (x : Drawn). made s a l ws ds cs x d) u
-          ∙ passed-is _ _ (is-none late _ plan-late p)
+          ∙ ap (λ (x : Drawn). made s a l ws ds cs x b) used-is
+          ∙ passed-is _ _ none-refused

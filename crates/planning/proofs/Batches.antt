@@ -74,6 +74,12 @@ replayed-told bank rounds zero indices = refl
 replayed-told bank rounds (suc n) [] = omega arith
 replayed-told bank rounds (suc n) (i ∷ indices) = round-told (ltb i rounds) (getD bank i 0) (replayed bank rounds n indices) n (replayed-told bank rounds n indices)
 
+pub analytic-all : (model : AcceptanceModel) (positions : List Float) (gamma n : ℕ) (draws : List Float) (used : ℕ) → Used used ≡ analytic model positions gamma n draws .answer → length (analytic model positions gamma n draws .commits) ≡ n
+analytic-all model positions gamma n draws used e = subst (λ (d : Drawn). Told d (length (analytic model positions gamma n draws .commits)) n) (sym e) (analytic-told model positions gamma n draws)
+
+pub replayed-all : (bank : List ℕ) (rounds n : ℕ) (indices : List ℕ) (used : ℕ) → Used used ≡ replayed bank rounds n indices .answer → length (replayed bank rounds n indices .commits) ≡ n
+replayed-all bank rounds n indices used e = subst (λ (d : Drawn). Told d (length (replayed bank rounds n indices .commits)) n) (sym e) (replayed-told bank rounds n indices)
+
 -- ---- rounds that are replayed have an index each
 abbrev Indexed : Drawn → ℕ → ℕ → Type 0
 Indexed (Used used) n long = n ≤ long

@@ -3,8 +3,12 @@ use mathlib.Core.Path.{_≡_, refl, sym, ap, _∙_}
 use mathlib.Core.List.{List, _++_}
 use Prim.Native.Nat.{ℕ, suc, _+_, _≤_, _<_}
 use native.Mathlib.Omega.{arith}
-use lib.ListN.{length, getD, drop, set, length-set, drop-of-length-le}
-use lib.Seq.{sets, sets-eq, drop-cons}
+use lib.ListN.{length, getD, take, drop, replicate, set, length-set, length-replicate, drop-of-length-le}
+use lib.Seq.{sets, sets-eq, drop-cons, length-take-le}
+
+-- the front of an array that is new
+pub front-long : (n k : ℕ) → n ≤ k → length (take n (replicate {A = ℕ} k 0)) ≡ n
+front-long n k h = length-take-le n (replicate {A = ℕ} k 0) (omega (arith, length-replicate {A = ℕ} k 0))
 
 -- the first k are stored, and the rest is to come
 pub record Fronted (values old out : List ℕ) (k : ℕ) : Type 0 where

@@ -3,3 +3,4 @@ pub mod Ways
 pub mod Prices
 pub mod Writing
 pub mod Batches
+pub mod Late

@@ -1,10 +1,11 @@
 -- Laws of the prices in force, and of what a decision reads. Assumes nothing.
 use mathlib.Core.Path.{_≡_, refl, sym, ap, _∙_}
 use mathlib.Core.Bool.{true}
-use mathlib.Core.List.{List}
+use mathlib.Core.List.{List, _++_}
 use Prim.Native.Nat.{ℕ, _+_, _≤_, _<_}
 use native.Mathlib.Omega.{arith}
 use lib.ListN.{length, take, length-take}
+use lib.Seq.{length-take-le, take-at}
 use lib.Ieee.{Float}
 use Rattle.cost_rows.specs.Table.{Row}
 use Rattle.step_times.specs.Prices.{prices, each}
@@ -32,6 +33,13 @@ prices-long batch kv t = refl
 first-long : (n : ℕ) (xs : List Float) → n < length xs → length (take (n + 1) xs) ≡ n + 1
 first-long n xs h = simp length-take (omega arith)
 
+-- the first of them stand at the front of what holds them
+pub front-priced : (m : ℕ) (part out rest : List Float) (batch : ℕ) (kv : Float) (t : List Row) → length part ≡ m → m ≤ 65 → out ≡ take (length part) (prices batch kv t) → take m (out ++ rest) ≡ take m (prices batch kv t)
+front-priced m part out rest batch kv t l h e =
+    let f : out ≡ take m (prices batch kv t) = e ∙ ap (λ (k : ℕ). take k (prices batch kv t)) l in
+    let n : length out ≡ m = ap length f ∙ length-take-le m (prices batch kv t) (omega (arith, prices-long batch kv t)) in
+    take-at out rest m n ∙ f
+
 -- ---- the curve in force has a price for each depth, where costs are used
 module _ (s : Settings) (a : Ask) (l : Lent) (past : Past) (drafts : List ℕ) (p : Priced s a past l drafts) where
   pub force-long : (x : Source) → x ≡ a .source → usesCosts (s .policy) ≡ true → length (inForce (l .roofline) (prices (a .sequences) (a .rates .«kv_delta») (tableOf a l)) x (gammaIn s (a .depth))) ≡ gammaIn s (a .depth) + 1
@@ -42,25 +50,26 @@ module _ (s : Settings) (a : Ask) (l : Lent) (past : Past) (drafts : List ℕ) (
 
 -- ---- and it is the one that is worked out
 module _ (s : Settings) (a : Ask) (l : Lent) (past : Past) (drafts : List ℕ) (p : Priced s a past l drafts) (measured curve : List Float) (gamma : ℕ) (g : gamma ≡ gammaIn s (a .depth))
-    (m : usesCosts (s .policy) ≡ true → a .source ≡ Table → measured ≡ prices (a .sequences) (a .rates .«kv_delta») (tableOf a l)) where
+    (h : curve ≡ inForce (l .roofline) measured (a .source) gamma)
+    (m : usesCosts (s .policy) ≡ true → a .source ≡ Table → take (gamma + 1) measured ≡ take (gamma + 1) (prices (a .sequences) (a .rates .«kv_delta») (tableOf a l))) where
   curve-from : (x : Source) → x ≡ a .source → usesCosts (s .policy) ≡ true → curve ≡ inForce (l .roofline) measured x gamma → curve ≡ inForce (l .roofline) (prices (a .sequences) (a .rates .«kv_delta») (tableOf a l)) x (gammaIn s (a .depth))
-  curve-from Roofline e u h = h ∙ ap (λ (k : ℕ). take (k + 1) (l .roofline)) g
-  curve-from Table e u h = h ∙ ap (λ (k : ℕ). take (k + 1) measured) g ∙ ap (take (gammaIn s (a .depth) + 1)) (m u (sym e))
+  curve-from Roofline e u f = f ∙ ap (λ (k : ℕ). take (k + 1) (l .roofline)) g
+  curve-from Table e u f = f ∙ m u (sym e) ∙ ap (λ (k : ℕ). take (k + 1) (prices (a .sequences) (a .rates .«kv_delta») (tableOf a l))) g
 
-  pub curve-is : curve ≡ inForce (l .roofline) measured (a .source) gamma → usesCosts (s .policy) ≡ true → curve ≡ curveOf s a l
+  pub curve-is : usesCosts (s .policy) ≡ true → curve ≡ curveOf s a l
   unfolding curveOf
-  curve-is h u = curve-from (a .source) refl u h
+  curve-is u = curve-from (a .source) refl u h
 
-  pub curve-long : curve ≡ inForce (l .roofline) measured (a .source) gamma → usesCosts (s .policy) ≡ true → length curve ≡ gammaIn s (a .depth) + 1
+  curve-long : usesCosts (s .policy) ≡ true → length curve ≡ gammaIn s (a .depth) + 1
   unfolding curveOf
-  curve-long h u = ap length (curve-is h u) ∙ force-long s a l past drafts p (a .source) refl u
+  curve-long u = ap length (curve-is u) ∙ force-long s a l past drafts p (a .source) refl u
 
-  pub is-ready : curve ≡ inForce (l .roofline) measured (a .source) gamma → Ready s a past (l .bankCurve) (l .indices) curve drafts
-  is-ready h = record {
+  pub is-ready : Ready s a past (l .bankCurve) (l .indices) curve drafts
+  is-ready = record {
     shallow = p .shallow;
     few = p .few;
     room = p .room;
-    priced = curve-long h;
+    priced = curve-long;
     banked = p .banked;
     indexed = p .indexed;
     held = p .held;

@@ -4,7 +4,7 @@ use mathlib.Core.Bool.{Bool, true, false, _&&_, cond}
 use mathlib.Core.List.{List, []}
 use Prim.Native.Nat.{ℕ}
 use native.Mathlib.Omega.{arith}
-use lib.ListN.{length, take}
+use lib.ListN.{take}
 use lib.Ieee.{Float}
 use Rattle.acceptance.specs.declared.AcceptanceModel.{AcceptanceModel}
 use Rattle.acceptance.specs.declared.AcceptanceModel.the-variants.{Constant, PerPosition, Trace}
@@ -12,11 +12,11 @@ use Rattle.goodput.specs.declared.curve.Source.{Source}
 use Rattle.goodput.specs.declared.curve.Source.the-variants.{Roofline, Table}
 use Rattle.settings.specs.declared.Settings.{Settings}
 use Rattle.settings.specs.Settings.{gammaIn, usesSignals, isTrace}
-use Rattle.rounds.specs.Drawing.{Batch, analytic, replayed, drawnOver}
+use Rattle.rounds.specs.Drawing.{Batch, analytic, replayed}
 use Rattle.rounds.specs.Signals.{areFinite}
 use Rattle.asking.specs.declared.Ask.{Ask}
 use Rattle.deciding.specs.Ready.{lentOf}
-use Rattle.planning.specs.Steps.{drawnBy, signalsRefusal}
+use Rattle.planning.specs.Steps.{drawnBy, drawnUnless, signalsRefusal}
 use Rattle.planning.specs.Acting.{lentToDraw}
 
 -- ---- a test that is known
@@ -33,21 +33,21 @@ pub both-tests : {A : Type 0} (x : Bool) → x ≡ false → x ≡ true → A
 both-tests x e f = let z : _≡_ {A = ℕ} 0 1 = cc in absurd (let w : ⊥ = omega arith in w)
 
 -- ---- the rounds, by the model
-module _ (s : Settings) (a : Ask) (positions : List Float) (bank : List ℕ) (draws : List Float) (indices : List ℕ) (m : AcceptanceModel) (old : List ℕ) (r : Batch) (n : length old ≡ a .sequences) where
+module _ (late : ℕ) (s : Settings) (a : Ask) (positions : List Float) (bank : List ℕ) (draws : List Float) (indices : List ℕ) (m : AcceptanceModel) (old : List ℕ) (r : Batch) where
   abbrev pub drawnUnder : Batch
   drawnUnder = drawnBy s a (lentToDraw positions bank draws indices) m
 
-  pub drawn-constant : (alpha : Float) → m ≡ Constant alpha → r ≡ drawnOver (analytic m positions (s .gamma) (length old) draws) old → r ≡ drawnOver drawnUnder old
+  pub drawn-constant : (alpha : Float) → m ≡ Constant alpha → r ≡ drawnUnless late (analytic m positions (s .gamma) (a .sequences) draws) old → r ≡ drawnUnless late drawnUnder old
   unfolding drawnBy
-  drawn-constant alpha e h = h ∙ ap (λ (k : ℕ). drawnOver (analytic m positions (s .gamma) k draws) old) n ∙ rw e
+  drawn-constant alpha e h = let q : analytic m positions (s .gamma) (a .sequences) draws ≡ drawnUnder = rw e in h ∙ ap (λ (b : Batch). drawnUnless late b old) q
 
-  pub drawn-positions : m ≡ PerPosition → r ≡ drawnOver (analytic m positions (s .gamma) (length old) draws) old → r ≡ drawnOver drawnUnder old
+  pub drawn-positions : m ≡ PerPosition → r ≡ drawnUnless late (analytic m positions (s .gamma) (a .sequences) draws) old → r ≡ drawnUnless late drawnUnder old
   unfolding drawnBy
-  drawn-positions e h = h ∙ ap (λ (k : ℕ). drawnOver (analytic m positions (s .gamma) k draws) old) n ∙ rw e
+  drawn-positions e h = let q : analytic m positions (s .gamma) (a .sequences) draws ≡ drawnUnder = rw e in h ∙ ap (λ (b : Batch). drawnUnless late b old) q
 
-  pub drawn-trace : m ≡ Trace → r ≡ drawnOver (replayed bank (a .rounds) (length old) indices) old → r ≡ drawnOver drawnUnder old
+  pub drawn-trace : m ≡ Trace → r ≡ drawnUnless late (replayed bank (a .rounds) (a .sequences) indices) old → r ≡ drawnUnless late drawnUnder old
   unfolding drawnBy
-  drawn-trace e h = h ∙ ap (λ (k : ℕ). drawnOver (replayed bank (a .rounds) k indices) old) n ∙ rw e
+  drawn-trace e h = let q : replayed bank (a .rounds) (a .sequences) indices ≡ drawnUnder = rw e in h ∙ ap (λ (b : Batch). drawnUnless late b old) q
 
 -- ---- the signals of the drawn rounds
 module _ (s : Settings) (a : Ask) (signals : List Float) (indices : List ℕ) (used : Bool) (u : used ≡ (usesSignals (s .policy) && isTrace (s .model))) where

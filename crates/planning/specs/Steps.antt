@@ -1,8 +1,9 @@
 -- The steps of a plan: its prices, the rounds that it draws, what their signals are refused for, and whether a worker's record is used. Assumes nothing.
-use Prim.Native.Nat.{ℕ}
+use Prim.Native.Nat.{ℕ, zero, suc}
 use mathlib.Core.Bool.{Bool, false, not, _&&_, cond}
-use mathlib.Core.List.{List}
-use lib.ListN.{take}
+use mathlib.Core.List.{List, [], _∷_, _++_}
+use lib.Dec.{ltb}
+use lib.ListN.{length, take, drop}
 use lib.Ieee.{Float}
 use Rattle.acceptance.specs.declared.AcceptanceModel.{AcceptanceModel}
 use Rattle.acceptance.specs.declared.AcceptanceModel.the-variants.{Constant, PerPosition, Trace}
@@ -28,6 +29,24 @@ putUnder switch Fixed = false
 putUnder switch GoodputBudget = false
 putUnder switch GatedBudget = false
 putUnder switch GatedAggregate = not (isUnconstrained switch)
+
+-- ---- the commits of a batch at the front of the lent ones, unless its draws are refused, or `late`, which comes after them, is a refusal
+abbrev pub unlessLate : ℕ → ℕ → List ℕ → List ℕ → Batch
+unlessLate zero used new old = record { answer = Used used; commits = new ++ drop (length new) old }
+unlessLate (suc late) used new old = record { answer = NotDrawn (suc late); commits = old }
+
+abbrev pub unlessEither : Drawn → ℕ → List ℕ → List ℕ → Batch
+unlessEither (Used used) late new old = unlessLate late used new old
+unlessEither (NotDrawn number) late new old = record { answer = NotDrawn number; commits = old }
+
+abbrev pub drawnUnless : ℕ → Batch → List ℕ → Batch
+drawnUnless late b old = unlessEither (b .answer) late (b .commits) old
+
+-- of n indices: 13 where one is absent, 14 where one is not below the round count; else 0
+unfoldable pub indexRefusal : ℕ → ℕ → List ℕ → ℕ
+indexRefusal rounds zero indices = 0
+indexRefusal rounds (suc n) [] = 13
+indexRefusal rounds (suc n) (i ∷ indices) = cond (ltb i rounds) (indexRefusal rounds n indices) 14
 
 module _ (s : Settings) (a : Ask) (l : Lent) where
   -- the depth that may be drafted to, and the prices of the depths 0 to it

@@ -8,33 +8,45 @@ use settings::Policy;
 use settings::Settings;
 ghost use mathlib.Core.Path.{_≡_};
 ghost use mathlib.Core.Bool.{true};
+ghost use Prim.Native.Nat.{_≤_};
+ghost use lib.ListN.{length, take};
 ghost use Rattle.cost_rows.specs.Table.{zip};
 ghost use Rattle.goodput.specs.declared.curve.Source.the-variants.{Table};
 ghost use Rattle.settings.specs.Settings.{usesCosts};
 ghost use Rattle.step_times.specs.Prices.{prices};
 ghost use Rattle.planning.specs.Acting.{Tabled, Priced, decidedPriced, lentToAct};
 
-// The measured prices of the depths 0 to 64, where there is a table and the policy uses costs; else nothing that is read.
-fn measured(policy: Policy, ask: Ask, depths: &[u32], batches: &[u32], seconds: &[f64]) -> [f64; 65]
+// The measured prices of the first depths, as many as `out` has slots for, where there is a table and the policy uses costs. Else `out` stays as
+// it is, and is not read.
+fn measure(
+    policy: Policy,
+    ask: Ask,
+    depths: &[u32],
+    batches: &[u32],
+    seconds: &[f64],
+    out: &mut [f64],
+)
+    requires { ⌜ length (now out) ≤ 65 ⌝ }
     requires { ⌜ (usesCosts policy ≡ true → ask .source ≡ Table → Tabled ask (now depths) (now batches) (now seconds)) ⌝ }
-    ensures { λ r. ⌜ (usesCosts policy ≡ true → ask .source ≡ Table → r ≡ prices (ask .sequences) (ask .rates .«kv_delta») (zip (ask .rows) (now (depths .entry)) (now (batches .entry)) (now (seconds .entry)))) ⌝ }
+    ensures { λ _. ⌜ (usesCosts policy ≡ true → ask .source ≡ Table → now (out .exit) ≡ take (length (now (out .entry))) (prices (ask .sequences) (ask .rates .«kv_delta») (zip (ask .rows) (now (depths .entry)) (now (batches .entry)) (now (seconds .entry))))) ⌝ }
 {
     let source = ask.source;
     let rates = ask.rates;
     if uses::uses_costs(policy) {
         match source {
-            Source::Roofline => [0.0; 65],
-            Source::Table => step_times::inner::prices(
-                depths,
-                batches,
-                seconds,
-                ask.rows,
-                ask.sequences,
-                rates.kv_delta,
-            ),
+            Source::Roofline => {}
+            Source::Table => {
+                step_times::inner::prices_to(
+                    depths,
+                    batches,
+                    seconds,
+                    ask.rows,
+                    ask.sequences,
+                    rates.kv_delta,
+                    out,
+                )
+            }
         }
-    } else {
-        [0.0; 65]
     }
 }
 
@@ -60,7 +72,9 @@ pub fn decide_priced(
     let policy = settings.policy;
     let source = ask.source;
     let gamma = settings::gamma_in(settings, ask.depth);
-    let measured = measured(policy, ask, depths, batches, seconds);
+    let end = gamma as usize + 1;
+    let mut measured = [0.0; 65];
+    measure(policy, ask, depths, batches, seconds, &mut measured[..end]);
     let curve = goodput::curve::curve(roofline, &measured, source, gamma as usize);
     deciding::decide(
         settings,

@@ -30,7 +30,7 @@ stored-more (u ∷ us) vs l i =
     let n : suc i + length us ≡ i + suc (length us) = omega arith in
     stored-more us vs (set l i u) (suc i) ∙ ap (λ (k : ℕ). sets (sets (set l i u) (suc i) us) k vs) n
 
-drop-zeros : (n k : ℕ) → k ≤ n → drop k (replicate n f0) ≡ replicate (n - k) f0
+pub drop-zeros : (n k : ℕ) → k ≤ n → drop k (replicate n f0) ≡ replicate (n - k) f0
 drop-zeros n zero h = let z : n - 0 ≡ n = omega arith in ap (λ (m : ℕ). replicate m f0) (sym z)
 drop-zeros zero (suc k) h = absurd (not-suc-le-zero h)
 drop-zeros (suc n) (suc k) h = let z : suc n - suc k ≡ n - k = omega arith in drop-zeros n k (le-of-suc-le-suc h) ∙ ap (λ (m : ℕ). replicate m f0) (sym z)

@@ -1,8 +1,9 @@
 -- The signals of a batch's rounds, and their survival chains, 64 slots a sequence. Assumes nothing.
 use Prim.Native.Nat.{ℕ, zero, suc, _-_, _*_}
+use mathlib.Core.Path.{_≡_}
 use mathlib.Core.Bool.{Bool, true, _&&_}
 use mathlib.Core.List.{List, [], _∷_, _++_}
-use lib.ListN.{length, take, drop, replicate}
+use lib.ListN.{length, getD, take, drop, replicate}
 use lib.Ieee.{Float}
 use Rattle.float.specs.Floats.{f0, isFinite}
 use Rattle.acceptance.specs.Acceptance.{aD}
@@ -13,6 +14,10 @@ use Rattle.chains.specs.Survival.{survivalChain}
 -- confidences in 64 slots, with 0.0 past them
 abbrev pub slots : List Float → List Float
 slots confidences = confidences ++ replicate (64 - length confidences) f0
+
+-- slots that all hold 0.0
+abbrev pub Zeros : List Float → Type 0
+Zeros chains = (i : ℕ) → getD chains i f0 ≡ f0
 
 -- ---- by an acceptance model: every round has the same signal
 

@@ -17,7 +17,9 @@ cast-n : tie.Need-cast-n
 cast-n c = search needs
 
 lay-chains-requires : tie.Need-lay-chains-requires
-lay-chains-requires c κs = search needs
+lay-chains-requires c κs =
+    let pre = c .before .before .before .before .before .before .before .before .before .before .pre in
+    ((pre .0 .shallow, pre .0 .few, pre .1 .2, pre .1 .3), pre .0 .indexed)
 
 mul-end : tie.Need-mul-end
 mul-end c = search needs

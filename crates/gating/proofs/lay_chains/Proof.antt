@@ -38,7 +38,7 @@ lay-rounds-requires : tie.Need-lay-rounds-requires
 lay-rounds-requires c κs =
     let a = c .before .before .before .before .before .before .before .before .before .args in
     let l = length-take-le (a .ask .sequences) (now (a .indices)) (c .before .before .before .before .before .before .before .before .before .pre .1 (ap isTrace (c .before .before .enum-told3 .given .1))) in
-    (c .before .before .before .before .before .before .before .before .before .pre .0 .0, omega (arith, l, c .before .before .before .before .before .before .before .before .before .pre .0 .2))
+    (c .before .before .before .before .before .before .before .before .before .pre .0 .0, omega (arith, l, c .before .before .before .before .before .before .before .before .before .pre .0 .2), c .before .before .before .before .before .before .before .before .before .pre .0 .3)
 
 same-length : tie.Need-same-length
 same-length c = search needs

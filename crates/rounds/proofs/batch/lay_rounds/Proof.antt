@@ -4,24 +4,24 @@ use mathlib.Core.List.{List, _++_}
 use Prim.Native.Nat.{_≤_, _<_, _-_, _+_, _*_}
 use native.Mathlib.Omega.{arith}
 use denote.Ref.{now}
-use lib.ListN.{length, drop, getD}
-use lib.Seq.{sets}
+use lib.ListN.{length, take, drop, getD}
 use lib.Ieee.{Float}
-use Rattle.chains.specs.Survival.{survivalChain}
-use Rattle.rounds.specs.Signals.{slots, roundChain, roundChains}
-use Rattle.rounds.proofs.Laying.{Laying, laying-begins, laying-next, laying-is, laying-ends, rounds-next, rounds-end, confidences-few, round-length}
+use Rattle.float.specs.Floats.{f1}
+use Rattle.chains.specs.Survival.{products}
+use Rattle.rounds.specs.Signals.{slots, roundChains}
+use Rattle.rounds.proofs.Laying.{Laying, laying-begins, laying-next, laying-is, laying-ends, rounds-next, rounds-end, confidences-few, round-front, front-few}
 use borrow.Author.Needs.{needs}
 use Rattle.rounds.proofs.batch.lay_rounds.Statement.{statement}
 use Rattle.rounds.proofs.batch.lay_rounds.Tie as tie
 
 abbrev Inv-loop : tie.InvT-loop
-Inv-loop signals depth gamma indices chains₀ k₀ chains k = (k ≤ length indices) × Laying (roundChains signals depth gamma indices) chains₀ chains k (roundChains signals depth gamma (drop k indices))
+Inv-loop signals depth gamma indices chains₀ width k₀ chains k = (k ≤ length indices) × Laying (roundChains signals depth gamma indices) chains₀ chains k (roundChains signals depth gamma (drop k indices))
 
 abbrev μ-loop : tie.MeasureT-loop
-μ-loop signals depth gamma indices chains₀ k₀ chains k = length indices - k
+μ-loop signals depth gamma indices chains₀ width k₀ chains k = length indices - k
 
 loop-holds : tie.Need-loop-holds Inv-loop μ-loop
-loop-holds c = (omega arith, laying-begins _ _)
+loop-holds c = (omega arith, laying-begins _ _ (c .before .before .before .pre .2))
 
 mul-confidences-of : tie.Need-mul-confidences-of Inv-loop μ-loop
 mul-confidences-of c = search needs
@@ -32,20 +32,14 @@ shared-slice-read-confidences-of c = search needs
 confidences-of-requires : tie.Need-confidences-of-requires Inv-loop μ-loop
 confidences-of-requires c κs = search needs
 
-slots-of-requires : tie.Need-slots-of-requires Inv-loop μ-loop
-slots-of-requires c κs =
-    let a = c .before .before .before .before .before .before .before .args in
-    let few = confidences-few (now (a .signals)) (a .depth) (a .gamma) (now (a .indices)) (getD (now (a .indices)) (c .before .before .before .loop .k) 0) (c .before .before .before .before .before .before .before .pre .0) in
-    omega (arith, few, ap length (c .confidences-of .ensures))
+mul-lay-round : tie.Need-mul-lay-round Inv-loop μ-loop
+mul-lay-round c = omega (arith, c .before .before .before .before .before .before .before .before .pre .1)
 
-chain-requires : tie.Need-chain-requires Inv-loop μ-loop
-chain-requires c κs = search needs
-
-mul-lay : tie.Need-mul-lay Inv-loop μ-loop
-mul-lay c = omega (arith, c .before .before .before .before .before .before .before .before .before .before .pre .1)
-
-lay-requires : tie.Need-lay-requires Inv-loop μ-loop
-lay-requires c κs = omega (arith, c .before .before .before .before .before .before .before .before .before .before .pre .1, c .before .before .before .before .before .before .loop .inv .1 .long, c .before .before .before .before .before .loop-test .taken)
+lay-round-requires : tie.Need-lay-round-requires Inv-loop μ-loop
+lay-round-requires c κs =
+    let a = c .before .before .before .before .before .before .before .before .args in
+    let few = confidences-few (now (a .signals)) (a .depth) (a .gamma) (now (a .indices)) (getD (now (a .indices)) (c .before .before .before .before .loop .k) 0) in
+    (omega (arith, few, ap length (c .before .confidences-of .ensures)), c .before .before .before .before .before .before .before .before .pre .0, omega (arith, c .before .before .before .before .before .before .before .before .pre .1, c .before .before .before .before .loop .inv .1 .long, c .before .before .before .loop-test .taken))
 
 add-k : tie.Need-add-k Inv-loop μ-loop
 add-k c = search needs
@@ -55,13 +49,14 @@ loop-less c = search needs
 
 loop-again : tie.Need-loop-again Inv-loop μ-loop
 loop-again c =
-    let a = c .before .before .before .before .before .before .before .before .before .before .before .before .before .args in
-    let here = c .before .before .before .before .before .before .before .before .before .loop in
+    let a = c .before .before .before .before .before .before .before .before .before .before .before .args in
+    let here = c .before .before .before .before .before .before .before .loop in
     let i = getD (now (a .indices)) (here .k) 0 in
-    let e : c .before .before .before .before .chain .result ≡ roundChain (now (a .signals)) (a .depth) (a .gamma) i = c .before .before .before .before .chain .ensures ∙ ap (λ (s : List Float). survivalChain s (a .gamma)) (c .before .before .before .before .before .slots-of .ensures ∙ ap slots (c .before .before .before .before .before .before .confidences-of .ensures)) in
-    let l : length (c .before .before .before .before .chain .result) ≡ 64 = ap length e ∙ round-length (now (a .signals)) (a .depth) (a .gamma) (now (a .indices)) i (c .before .before .before .before .before .before .before .before .before .before .before .before .before .pre .0) in
+    let front = products f1 (take (a .gamma) (slots (now (c .before .before .before .before .confidences-of .result)))) in
+    let e = round-front (now (a .signals)) (a .depth) (a .gamma) (now (a .indices)) i (now (c .before .before .before .before .confidences-of .result)) (c .before .before .before .before .before .before .before .before .before .before .before .pre .0) (c .before .before .before .before .confidences-of .ensures) in
+    let l : length front ≤ 64 = front-few (now (a .signals)) (a .depth) (a .gamma) (now (a .indices)) (now (c .before .before .before .before .confidences-of .result)) (c .before .before .before .before .before .before .before .before .before .before .before .pre .0) in
     let r = roundChains (now (a .signals)) (a .depth) (a .gamma) (drop (here .k + 1) (now (a .indices))) in
-    (omega arith, laying-next _ _ (here .chains) (here .k) (c .before .before .before .before .chain .result) r _ l (c .before .before .lay .ensures) (laying-is _ _ (here .chains) (here .k) _ _ (rounds-next (now (a .signals)) (a .depth) (a .gamma) (now (a .indices)) (here .k) (c .before .before .before .before .before .before .before .before .loop-test .taken) ∙ ap (λ (x : List Float). x ++ r) (sym e)) (here .inv .1)))
+    (omega arith, laying-next _ _ (here .chains) (here .k) front r _ l (omega (arith, c .before .before .before .before .before .before .before .before .before .before .before .pre .1, here .inv .1 .long, c .before .before .before .before .before .before .loop-test .taken)) (c .before .before .lay-round .ensures) (laying-is _ _ (here .chains) (here .k) _ _ (rounds-next (now (a .signals)) (a .depth) (a .gamma) (now (a .indices)) (here .k) (c .before .before .before .before .before .before .loop-test .taken) ∙ ap (λ (x : List Float). x ++ r) e) (here .inv .1)))
 
 same-length : tie.Need-same-length Inv-loop μ-loop
 same-length c = c .before .loop .inv .1 .long
@@ -82,10 +77,8 @@ lay-rounds-spec =
     mul-confidences-of
     shared-slice-read-confidences-of
     confidences-of-requires
-    slots-of-requires
-    chain-requires
-    mul-lay
-    lay-requires
+    mul-lay-round
+    lay-round-requires
     add-k
     loop-less
     loop-again
