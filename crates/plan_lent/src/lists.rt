@@ -2,6 +2,7 @@
 // bank's commits, signals and curve, draws, indices. Each has its own part of a room of floats or of a room of whole numbers.
 use crate::registers;
 use cases::words;
+ghost use Prim.Native.Nat.{_≤_};
 
 // As many as there are.
 pub const LISTS: usize = 11;
@@ -39,6 +40,46 @@ fn start(list: usize) -> usize {
         10 => 8704,
         _ => 9856,
     }
+}
+
+// Where a list's part ends in its room, which is so long: where the next one starts.
+fn end(list: usize, room: usize) -> usize {
+    match list {
+        0 => 128,
+        1 => 256,
+        4 => 4608,
+        5 => 5760,
+        8 => 5888,
+        9 => 71552,
+        2 => 4352,
+        3 => 8704,
+        10 => 9856,
+        _ => room,
+    }
+}
+
+// A list's part of its room.
+pub struct Part {
+    pub start: usize,
+    pub end: usize,
+}
+
+// The part that a list has of a room of this length, for whoever writes it.
+pub fn place_of(list: usize, room: usize) -> Part
+    ensures { λ r. ⌜ (r .start ≤ r .end) × (r .end ≤ room) ⌝ }
+{
+    let start = start(list);
+    let end = end(list, room);
+    if room < end {
+        return Part {
+            start: room,
+            end: room,
+        };
+    }
+    if end < start {
+        return Part { start: end, end };
+    }
+    Part { start, end }
 }
 
 // Sets a list. The words are its number, its length, how many words of it are given, and those; the list takes them in turn, from the first

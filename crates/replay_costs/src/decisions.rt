@@ -1,9 +1,9 @@
 // Switching. A record is three words, its width, rounds and stall; switch settings are four, the cooldown, whether there is a max_step, the
 // max_step, and the cost. The words of a decision are the record, the target, the settings and the curve, a list; those of a walk are the
 // width, the target, both words of the max_step and the candidates, a list.
+use crate::kinds;
 use cases::answers;
 use cases::lists;
-use cases::tally;
 use cases::words;
 use switch_settings::MaxStep;
 use switch_settings::SwitchConstraints;
@@ -16,15 +16,10 @@ ghost use Prim.Native.Nat.{_≤_};
 ghost use lib.ListN.{length};
 
 pub fn print(counts: &[u64]) {
-    tally::print_kind(counts, b'u', b"switch_refusal");
-    tally::print_kind(counts, b'a', b"is_unconstrained");
-    tally::print_kind(counts, b'o', b"record_refusal");
-    tally::print_kind(counts, b'k', b"walk_candidates");
-    tally::print_kind(counts, b'i', b"first");
-    tally::print_kind(counts, b'c', b"decide");
-    tally::print_kind(counts, b'l', b"decide_lent");
-    tally::print_kind(counts, b'e', b"collect");
-    tally::print_kind(counts, b'n', b"collect_lent");
+    kinds::print(
+        counts,
+        b"u switch_refusal\na is_unconstrained\no record_refusal\nk walk_candidates\ni first\nc decide\nl decide_lent\ne collect\nn collect_lent\n",
+    );
 }
 
 pub fn is_decision(kind: u8) -> bool {

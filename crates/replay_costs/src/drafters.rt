@@ -1,8 +1,8 @@
 // Drafter costs. The words of a cost are a drafter, gamma, batch, three rates, the verify cost, and two lists: the widths and the loaded
 // experts; `plan_words::drafters` says what the words of a drafter and of rates are.
+use crate::kinds;
 use cases::answers;
 use cases::lists;
-use cases::tally;
 use cases::words;
 use speculative::drafter;
 use speculative::drafter::DraftTime;
@@ -10,12 +10,10 @@ ghost use Prim.Native.Nat.{_≤_};
 ghost use lib.ListN.{length};
 
 pub fn print(counts: &[u64]) {
-    tally::print_kind(counts, b'v', b"drafter_refusal");
-    tally::print_kind(counts, b'w', b"rates_refusal");
-    tally::print_kind(counts, b'b', b"is_block");
-    tally::print_kind(counts, b'd', b"seconds");
-    tally::print_kind(counts, b'q', b"pass_seconds");
-    tally::print_kind(counts, b'g', b"ragged_seconds");
+    kinds::print(
+        counts,
+        b"v drafter_refusal\nw rates_refusal\nb is_block\nd seconds\nq pass_seconds\ng ragged_seconds\n",
+    );
 }
 
 pub fn is_cost(kind: u8) -> bool {

@@ -1,10 +1,10 @@
 // Lookups in a lent cost table. The words are what is asked, two numbers, then the rows and the three columns, each a list.
+use crate::kinds;
 use batch_ranges::BatchRange;
 use batch_ranges::MaxBatch;
 use batch_ranges::Measured;
 use cases::answers;
 use cases::lists;
-use cases::tally;
 use cases::words;
 use cost_lookup::answer::PriceCurve;
 use step_times::Time;
@@ -12,13 +12,10 @@ ghost use Prim.Native.Nat.{_≤_};
 ghost use lib.ListN.{length};
 
 pub fn print(counts: &[u64]) {
-    tally::print_kind(counts, b'j', b"table_refusal");
-    tally::print_kind(counts, b's', b"step_time");
-    tally::print_kind(counts, b'h', b"has_draft");
-    tally::print_kind(counts, b'r', b"batch_range");
-    tally::print_kind(counts, b'm', b"max_batch");
-    tally::print_kind(counts, b'f', b"step_time_frac");
-    tally::print_kind(counts, b'p', b"price_curve");
+    kinds::print(
+        counts,
+        b"j table_refusal\ns step_time\nh has_draft\nr batch_range\nm max_batch\nf step_time_frac\np price_curve\n",
+    );
 }
 
 pub fn is_lookup(kind: u8) -> bool {

@@ -3,6 +3,7 @@
 // the words of each kind are.
 mod decisions;
 mod drafters;
+mod kinds;
 mod lookups;
 mod tables;
 

@@ -2,10 +2,11 @@
 // place among those of the case.
 use crate::many;
 use cases::words;
-use ledger::answer::Answer;
-use ledger::answer::Count;
 use ledger::answer::Decision;
-use ledger::answer::Stall;
+use ledger_words::outcome::Outcome;
+use ledger_words::outcome::of_answer;
+use ledger_words::outcome::of_stall;
+use ledger_words::outcome::refused;
 use libc::STDOUT_FILENO;
 use std::num::wrapping_add_u64;
 ghost use Prim.Native.Nat.{_≤_};
@@ -26,44 +27,6 @@ pub fn name_at(names: &[u64], place: usize) -> Name
     Name {
         a: words::at(names, 2 * place),
         b: words::at(names, 2 * place + 1),
-    }
-}
-
-// What a call answers: the refusal's number or 0, and the value, 0 where there is none.
-pub struct Outcome {
-    pub refusal: u64,
-    pub value: u64,
-}
-
-pub fn refused(number: u64) -> Outcome {
-    Outcome {
-        refusal: number,
-        value: 0,
-    }
-}
-
-pub fn value(value: u64) -> Outcome {
-    Outcome { refusal: 0, value }
-}
-
-pub fn of_answer(answer: Answer) -> Outcome {
-    match answer {
-        Answer::Done => value(0),
-        Answer::Refused(number) => refused(number),
-    }
-}
-
-pub fn of_count(count: Count) -> Outcome {
-    match count {
-        Count::Is(n) => value(n),
-        Count::Refused(number) => refused(number),
-    }
-}
-
-fn of_stall(stall: Stall) -> Outcome {
-    match stall {
-        Stall::Seconds(seconds) => value(float::bits(seconds)),
-        Stall::Refused(number) => refused(number),
     }
 }
 

@@ -1,14 +1,12 @@
 // The two sums of what can be read: how many seconds and workers are held and how many withdrawals are available, the series with the slot
 // behind it in each buffer, the day figure, and the record of each worker of the case. A reading is its refusal and its values, 0 where there
 // is none.
-use crate::calls::Outcome;
-use crate::calls::of_count;
-use crate::calls::refused;
-use crate::calls::value;
 use cases::sums::Sums;
-use ledger::answer::Figure;
 use ledger::answer::Found;
-ghost use Prim.Native.Nat.{_≤_};
+use ledger_words::outcome::Outcome;
+use ledger_words::outcome::of_count;
+use ledger_words::outcome::of_figure;
+use ledger_words::reads::front;
 
 pub fn of(
     storage: &[u64],
@@ -54,22 +52,6 @@ fn and_fronts(sums: Sums, count: u64, seconds: &[u64], drafts: &[f64], batches: 
     sums.and_words(&seconds[0..s])
         .and_floats(&drafts[0..d])
         .and_floats(&batches[0..b])
-}
-
-fn front(count: u64, length: usize) -> usize
-    ensures { λ r. ⌜ r ≤ length ⌝ }
-{
-    if count < length as u64 {
-        return count as usize + 1;
-    }
-    length
-}
-
-fn of_figure(figure: Figure) -> Outcome {
-    match figure {
-        Figure::Mean(mean) => value(float::bits(mean)),
-        Figure::Refused(number) => refused(number),
-    }
 }
 
 fn and_workers(sums: Sums, storage: &[u64], names: &[u64]) -> Sums {

@@ -1,11 +1,11 @@
 // Many calls in one. Its value is how many were accepted, its refusal the newest of the others.
 use crate::calls::MOST;
-use crate::calls::Outcome;
 use crate::calls::name_at;
-use crate::calls::of_answer;
-use crate::calls::value;
 use cases::words;
 use ledger::answer::Decision;
+use ledger_words::outcome::Outcome;
+use ledger_words::outcome::of_answer;
+use ledger_words::outcome::value;
 use std::num::wrapping_add_u64;
 ghost use Prim.Native.Nat.{_≤_};
 

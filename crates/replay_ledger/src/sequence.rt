@@ -3,13 +3,13 @@
 // the two sums of what can be read after it, and last the sums of the storage's words that no call may write.
 use crate::calls;
 use crate::calls::MOST;
-use crate::calls::Outcome;
 use crate::digest;
 use cases::answers;
 use cases::lists;
 use cases::sums::Sums;
 use cases::words;
 use ledger_rows::layout::ROOM;
+use ledger_words::outcome;
 ghost use Prim.Native.Nat.{_≤_};
 ghost use lib.ListN.{length};
 
@@ -139,17 +139,10 @@ fn turn(
 ) -> usize
     ensures { λ r. ⌜ r ≤ length (now (ours .exit)) ⌝ }
 {
-    let outcome = calls::make(call, names, storage);
+    let made = calls::make(call, names, storage);
     let sums = digest::of(storage, names, seconds, drafts, batches);
-    let next = put_outcome(ours, at, outcome);
+    let next = outcome::put(ours, at, made);
     put_sums(ours, next, sums)
-}
-
-fn put_outcome(ours: &mut [u64], at: usize, outcome: Outcome) -> usize
-    ensures { λ r. ⌜ r ≤ length (now (ours .exit)) ⌝ }
-{
-    let next = answers::put(ours, at, outcome.refusal);
-    answers::put(ours, next, outcome.value)
 }
 
 fn put_sums(ours: &mut [u64], at: usize, sums: Sums) -> usize

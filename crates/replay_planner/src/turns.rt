@@ -3,11 +3,6 @@
 // call answers, one behind the other.
 use cases::answers;
 use cases::words;
-use plan_lent::lists;
-use plan_lent::registers;
-use planner_calls::held;
-use planner_calls::many;
-use planner_calls::plans;
 ghost use Prim.Native.Nat.{_≤_};
 ghost use lib.ListN.{length};
 
@@ -70,19 +65,9 @@ fn turn(
     ensures { λ r. ⌜ r ≤ length (now (ours .exit)) ⌝ }
 {
     let letter = (words::at(call, 0) % 256) as u8;
-    if letter == b'r' {
-        registers::set(call, set);
+    if plan_lent::is_setting(letter) {
+        plan_lent::set(letter, call, set, floats, wholes);
         return at;
     }
-    if letter == b'l' {
-        lists::set(call, set, floats, wholes);
-        return at;
-    }
-    if letter == b'p' {
-        return plans::one(call, set, floats, wholes, storage, ours, at);
-    }
-    if letter == b'm' {
-        return many::plans(call, set, floats, wholes, storage, ours, at);
-    }
-    held::make(letter, call, storage, ours, at)
+    planner_calls::make(letter, call, set, floats, wholes, storage, ours, at)
 }

@@ -1,10 +1,10 @@
--- `held::put_words` ends and stays in the room. Assumes nothing.
+-- `reads::put_words` ends and stays in the room. Assumes nothing.
 use mathlib.Core.Path.{_≡_}
 use Prim.Native.Nat.{_≤_, _-_}
 use lib.ListN.{length}
 use borrow.Author.Needs.{needs}
-use Rattle.planner_calls.proofs.held.put_words.Statement.{statement}
-use Rattle.planner_calls.proofs.held.put_words.Tie as tie
+use Rattle.ledger_words.proofs.reads.put_words.Statement.{statement}
+use Rattle.ledger_words.proofs.reads.put_words.Tie as tie
 
 abbrev Inv-loop : tie.InvT-loop
 Inv-loop ours₀ at list next₀ k₀ ours next k = (k ≤ length list) × (next ≤ length ours) × (length ours ≡ length ours₀)
