@@ -1,0 +1,33 @@
+// The whole-number sums of one of the seconds held: what its means are made of.
+pub mod answer;
+
+use crate::answer::Sums;
+use ledger_rows::layout::ROOM;
+use ledger_rows::layout::SECOND;
+use ledger_rows::layout::SECONDS;
+ghost use mathlib.Core.Path.{_≡_};
+ghost use Rattle.ledger_sums.specs.Sums.{sumsOf};
+
+// The second in row `row`, counted from 0 in ascending order, with its sums; past the last one there is none.
+pub fn sums(storage: &[u64], row: u64) -> Sums
+    ensures { λ r. ⌜ r ≡ sumsOf (now (storage .entry)) row ⌝ }
+{
+    if storage.len() < ROOM {
+        return Sums::Refused(16);
+    }
+    let rows = ledger_seconds::inner::held(storage) as u64;
+    if rows <= row {
+        return Sums::Past;
+    }
+    let at = SECONDS + SECOND * row as usize;
+    let second = storage[at];
+    let drafts = storage[at + 1];
+    let sequences = storage[at + 2];
+    let steps = storage[at + 3];
+    Sums::Of {
+        second,
+        drafts,
+        sequences,
+        steps,
+    }
+}
