@@ -1,0 +1,52 @@
+-- How a mean and a figure are written: to six decimals.
+use Prim.Native.Nat.{ℕ, _+_, _*_, _/_, _^_, max}
+use mathlib.Core.Bool.{cond}
+use mathlib.Core.List.{List}
+use lib.Dec.{ltb}
+use lib.Ieee.{Float, binary64, ofBits, lt, add, mul, toUnsigned}
+use Rattle.page.specs.Spelt.{spelt}
+use Rattle.page.specs.Numbers.{sixDecimals, bar}
+
+-- sums and counts up to here have their mean written
+abbrev pub limit : ℕ
+limit = 4 * 10 ^ 12
+
+-- what stands where a mean or a float is not written
+abbrev pub tooLarge : List ℕ
+tooLarge = spelt "too large"
+
+abbrev pub outOfRange : List ℕ
+outOfRange = spelt "out of range"
+
+-- sum / max(count, 1) in millionths, rounded to the nearest, a half up
+abbrev pub millionths : ℕ → ℕ → ℕ
+millionths sum count = (2 * 10 ^ 6 * sum + max count 1) / (2 * max count 1)
+
+unfoldable pub meanText : ℕ → ℕ → List ℕ
+meanText sum count = cond (ltb limit sum) tooLarge (cond (ltb limit count) tooLarge (sixDecimals (millionths sum count)))
+
+-- a mark for each whole one of the mean; none where the mean is not written
+unfoldable pub meanBar : ℕ → ℕ → List ℕ
+meanBar sum count = cond (ltb limit sum) (bar 0) (cond (ltb limit count) (bar 0) (bar (millionths sum count / 10 ^ 6)))
+
+-- ---- a float, from 0.0 to below 10^12
+
+-- the floats 0.0, 0.5, 10^6 and 10^12
+abbrev pub zeroFigure : Float
+zeroFigure = ofBits binary64 0
+
+abbrev pub half : Float
+half = ofBits binary64 0x3fe0_0000_0000_0000
+
+abbrev pub million : Float
+million = ofBits binary64 0x412e_8480_0000_0000
+
+abbrev pub highFigure : Float
+highFigure = ofBits binary64 0x426d_1a94_a200_0000
+
+-- the whole part of x × 10^6 + 0.5, each operation rounded once
+unfoldable pub figureMillionths : Float → ℕ
+figureMillionths x = toUnsigned 64 (add binary64 (mul binary64 x million) half)
+
+unfoldable pub figureText : Float → List ℕ
+figureText x = cond (lt x zeroFigure) outOfRange (cond (lt x highFigure) (sixDecimals (figureMillionths x)) outOfRange)

@@ -1,0 +1,3 @@
+pub mod Means
+pub mod Fits
+pub mod Examples

@@ -1,0 +1,72 @@
+// The lines of the series, of the day figure and of what a collect answers.
+ghost use Rattle.page.specs.Page.{Added};
+ghost use Rattle.series_lines.specs.Lines.{seriesHead, seriesMeans, seriesRow, seriesBits, dayLine, collectLine};
+
+// How many seconds the series has.
+pub fn series_head(page: &mut [u8], used: usize, line: u64, seconds: u64) -> usize
+    ensures { λ r. ⌜ Added (now (page .entry)) used (seriesHead line seconds) (now (page .exit)) r ⌝ }
+{
+    let a = page::append_decimal(page, used, line);
+    let b = page::append(page, a, b",series,seconds ");
+    let c = page::append_decimal(page, b, seconds);
+    page::append(page, c, b"\n")
+}
+
+// A second's means, and the bar.
+fn series_means(page: &mut [u8], used: usize, drafts: u64, sequences: u64, steps: u64) -> usize
+    ensures { λ r. ⌜ Added (now (page .entry)) used (seriesMeans drafts sequences steps) (now (page .exit)) r ⌝ }
+{
+    let a = series_fields::mean_column(page, used, b",mean draft ", drafts, sequences);
+    let b = series_fields::mean_column(page, a, b",mean batch ", sequences, steps);
+    let c = page::append(page, b, b",");
+    let d = figures::append_mean_bar(page, c, drafts, sequences);
+    page::append(page, d, b"\n")
+}
+
+// A second of the series: its sums, its means, and a bar as long as its mean draft.
+pub fn series_row(
+    page: &mut [u8],
+    used: usize,
+    line: u64,
+    second: u64,
+    drafts: u64,
+    sequences: u64,
+    steps: u64,
+) -> usize
+    ensures { λ r. ⌜ Added (now (page .entry)) used (seriesRow line second drafts sequences steps) (now (page .exit)) r ⌝ }
+{
+    let at = series_fields::series_sums(page, used, line, second, drafts, sequences, steps);
+    series_means(page, at, drafts, sequences, steps)
+}
+
+// A second of the series with its means by their bits.
+pub fn series_bits(
+    page: &mut [u8],
+    used: usize,
+    line: u64,
+    second: u64,
+    mean_draft: f64,
+    mean_batch: f64,
+) -> usize
+    ensures { λ r. ⌜ Added (now (page .entry)) used (seriesBits line second «mean_draft» «mean_batch») (now (page .exit)) r ⌝ }
+{
+    let a = page::append_decimal(page, used, line);
+    let b = series_fields::column(page, a, b",series,second ", 10, second);
+    let c = series_fields::bits_field(page, b, b",mean draft ", mean_draft);
+    let d = series_fields::bits_field(page, c, b",mean batch ", mean_batch);
+    page::append(page, d, b"\n")
+}
+
+// The day figure.
+pub fn day(page: &mut [u8], used: usize, line: u64, figure: f64) -> usize
+    ensures { λ r. ⌜ Added (now (page .entry)) used (dayLine line figure) (now (page .exit)) r ⌝ }
+{
+    series_fields::float_line(page, used, line, b",day,figure ", figure)
+}
+
+// The seconds that a collect answers.
+pub fn collect(page: &mut [u8], used: usize, line: u64, seconds: f64) -> usize
+    ensures { λ r. ⌜ Added (now (page .entry)) used (collectLine line seconds) (now (page .exit)) r ⌝ }
+{
+    series_fields::float_line(page, used, line, b",collect,seconds ", seconds)
+}

@@ -1,0 +1,48 @@
+-- `shown::wrong` meets its contract: one part behind another. Assumes nothing.
+use Rattle.page.proofs.Adding.{both}
+use Rattle.shown.specs.Lines.{wrongLine}
+use borrow.Author.Needs.{needs}
+use Rattle.shown.proofs.wrong.Statement.{statement}
+use Rattle.shown.proofs.wrong.Tie as tie
+
+slice-aggregate-headed : tie.Need-slice-aggregate-headed
+slice-aggregate-headed c = search needs
+
+headed-requires : tie.Need-headed-requires
+headed-requires c κs = search needs
+
+slice-aggregate-append : tie.Need-slice-aggregate-append
+slice-aggregate-append c = search needs
+
+append-requires : tie.Need-append-requires
+append-requires c κs = search needs
+
+expectation-requires : tie.Need-expectation-requires
+expectation-requires c κs = search needs
+
+slice-aggregate-append-2 : tie.Need-slice-aggregate-append-2
+slice-aggregate-append-2 c = search needs
+
+append-requires-2 : tie.Need-append-requires-2
+append-requires-2 c κs = search needs
+
+same-length : tie.Need-same-length
+same-length c = search needs
+
+returns : tie.Need-returns
+unfolding wrongLine
+returns c = both (c .before .before .before .before .before .before .before .before .before .before .before .before .before .before .before .before .headed .ensures) (both (c .before .before .before .before .before .before .before .before .before .before .before .append .ensures) (both (c .before .before .before .before .before .before .before .expectation .ensures) (c .before .before .append2 .ensures)))
+
+pub wrong-spec : {M : Type 1} → statement M
+wrong-spec =
+    tie.close
+    (tie.spec
+    slice-aggregate-headed
+    headed-requires
+    slice-aggregate-append
+    append-requires
+    expectation-requires
+    slice-aggregate-append-2
+    append-requires-2
+    same-length
+    returns)
