@@ -1,0 +1,3 @@
+// What crosses the C boundary: records of plain numbers, an enum by the number of its case; and what they stand for.
+pub mod answers;
+pub mod asked;
