@@ -1,5 +1,6 @@
 //! The command line of a program that writes files of cases.
 use crate::case_file::{self, FileCase};
+use crate::kept::Kept;
 use std::process::ExitCode;
 
 /// What a program writes.
@@ -14,6 +15,9 @@ pub struct Writer<Case, Random> {
     pub spoiled: fn(usize, Case) -> Case,
     /// What the space of a spoiled file says of its cases.
     pub spoiling: &'static str,
+    /// The case of a seed at a place, from 0, with some of its calls, and how many calls it has with
+    /// all; none where a case is one call.
+    pub with_calls: Option<fn(u64, usize, &Kept) -> (Case, usize)>,
 }
 
 /// Does what the program's arguments ask for.
@@ -39,6 +43,13 @@ impl<Case: FileCase, Random: Iterator<Item = Case>> Writer<Case, Random> {
             ["random", seed, count, out] => self.write_random(seed, count, out),
             ["spoil", from, out] => self.write_spoiled(from, out, usize::MAX),
             ["spoil", from, out, count] => self.write_spoiled(from, out, count_of(count)?),
+            ["part", from, out, first, count] => {
+                self.write_part(from, out, count_of(first)?, count_of(count)?)
+            }
+            ["one", seed, place, out] => self.write_one(seed, place, out, &Kept::All),
+            ["one", seed, place, out, kept] => {
+                self.write_one(seed, place, out, &Kept::these(kept)?)
+            }
             _ => Err(usage(self.name)),
         }
     }
@@ -51,10 +62,30 @@ impl<Case: FileCase, Random: Iterator<Item = Case>> Writer<Case, Random> {
 
     /// Writes random cases.
     fn write_random(&self, seed: &str, count: &str, out: &str) -> Result<(), String> {
-        let seed = seed.parse().map_err(|_| format!("no seed: {seed}"))?;
         let count = count_of(count)?;
-        let (space, cases) = (self.random)(seed);
+        let (space, cases) = (self.random)(seed_of(seed)?);
         write_counted(out, &space, cases.take(count))
+    }
+
+    /// Writes some cases of a file, from a place on.
+    fn write_part(&self, from: &str, out: &str, first: usize, count: usize) -> Result<(), String> {
+        let (space, cases) = case_file::read::<Case>(from)?;
+        let cases = cases.into_iter().skip(first).take(count);
+        write(out, &space, cases).map(|_| ())
+    }
+
+    /// Writes one random case, with the calls that are kept, and prints how many calls it has with all.
+    fn write_one(&self, seed: &str, place: &str, out: &str, kept: &Kept) -> Result<(), String> {
+        let [seed, place] = [seed_of(seed)?, count_of(place)? as u64];
+        let (space, mut cases) = (self.random)(seed);
+        let (case, calls) = match (self.with_calls, kept) {
+            (Some(with_calls), _) => with_calls(seed, place as usize, kept),
+            (None, Kept::All) => (cases.nth(place as usize).ok_or("no such case")?, 1),
+            (None, _) => return Err(format!("a case of {} is one call", self.name)),
+        };
+        write(out, &space, std::iter::once(case))?;
+        println!("calls {calls}");
+        Ok(())
     }
 
     /// Writes the first cases of a file, each spoiled.
@@ -89,6 +120,10 @@ fn write<Case: FileCase>(
     case_file::write(out, space, cases).map_err(|fault| format!("{out}: {fault}"))
 }
 
+fn seed_of(seed: &str) -> Result<u64, String> {
+    seed.parse().map_err(|_| format!("no seed: {seed}"))
+}
+
 fn count_of(count: &str) -> Result<usize, String> {
     count.parse().map_err(|_| format!("no count: {count}"))
 }
@@ -98,6 +133,8 @@ fn usage(name: &str) -> String {
         "record OUT",
         "random SEED COUNT OUT",
         "spoil IN OUT [COUNT]",
+        "part IN OUT FIRST COUNT",
+        "one SEED PLACE OUT [CALL,..]",
     ];
     let lines = commands.map(|command| format!("{name} {command}"));
     format!("usage: {}", lines.join(" | "))
@@ -109,7 +146,7 @@ mod tests {
 
     #[test]
     fn the_usage_names_the_program_before_each_command() {
-        let line = "usage: a record OUT | a random SEED COUNT OUT | a spoil IN OUT [COUNT]";
+        let line = "usage: a record OUT | a random SEED COUNT OUT | a spoil IN OUT [COUNT] | a part IN OUT FIRST COUNT | a one SEED PLACE OUT [CALL,..]";
         assert_eq!(usage("a"), line);
     }
 }

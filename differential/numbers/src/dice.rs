@@ -1,6 +1,7 @@
 //! A fixed stream of numbers from a seed.
 
 /// SplitMix64: the same stream on every machine.
+#[derive(Clone)]
 pub struct Dice {
     state: u64,
 }

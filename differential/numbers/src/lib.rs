@@ -9,6 +9,7 @@ pub mod dice;
 pub mod end_times;
 pub mod field_texts;
 pub mod figures;
+pub mod kept;
 pub mod lines;
 pub mod random;
 pub mod reading;

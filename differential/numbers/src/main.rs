@@ -10,5 +10,6 @@ fn main() -> ExitCode {
         random: |seed| (random::space(seed), random::cases(seed)),
         spoiled: |_, case| spoil::spoiled(case),
         spoiling: "each answer spoiled in one digit",
+        with_calls: None,
     })
 }

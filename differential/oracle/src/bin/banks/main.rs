@@ -23,5 +23,6 @@ fn main() -> ExitCode {
         random: |seed| (random::space(seed), random::cases(seed)),
         spoiled: spoil::spoiled,
         spoiling: "each spoiled in one digit",
+        with_calls: None,
     })
 }

@@ -21,5 +21,6 @@ fn main() -> ExitCode {
         random: |seed| (random::space(seed), random::cases(seed)),
         spoiled: sequence_case::spoiled,
         spoiling: "each spoiled in one word",
+        with_calls: Some(random::with_calls),
     })
 }

@@ -4,6 +4,7 @@ use crate::drawing::{drafts, sequences, target, workers, Calls};
 use crate::sequence::{Sequence, MOST_SLOTS, ROOM, WHOLE};
 use crate::sequence_case::SequenceCase;
 use numbers::dice::Dice;
+use numbers::kept::Kept;
 use oracle::clock::Clock;
 
 const MOST_WORKERS: usize = 256;
@@ -21,6 +22,19 @@ pub fn space(seed: u64) -> String {
 pub fn cases(seed: u64) -> impl Iterator<Item = SequenceCase> {
     let mut dice = Dice::new(seed);
     std::iter::repeat_with(move || sequence(&mut dice).case())
+}
+
+/// The sequence at a place with the calls that are kept and the first, which empties the storage; and
+/// how many calls it has with all.
+pub fn with_calls(seed: u64, place: usize, kept: &Kept) -> (SequenceCase, usize) {
+    let mut dice = Dice::new(seed);
+    let mut sequences = std::iter::repeat_with(|| sequence(&mut dice));
+    let whole = sequences.nth(place).expect("they have no end");
+    let calls = whole.calls.iter().enumerate();
+    let calls = calls.filter(|(place, _)| *place == 0 || kept.has(*place));
+    let calls = calls.map(|(_, call)| call.clone()).collect();
+    let count = whole.calls.len();
+    (Sequence { calls, ..whole }.case(), count)
 }
 
 /// Most are short; one in some thousands fills a second.

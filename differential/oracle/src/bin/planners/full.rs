@@ -43,7 +43,7 @@ fn filler(world: World, (a, b): (u64, u64), dice: &mut Dice) -> Plan {
 }
 
 /// As many seconds as there may be, or nearly.
-pub fn full_seconds(count: usize, dice: &mut Dice) -> PlannerCase {
+pub fn full_seconds(mut script: Script, count: usize, dice: &mut Dice) -> PlannerCase {
     let policy = dice.pick(&POLICIES);
     let mut scene = Scene::new(Shape::small(dice), policy, dice);
     let many = Many {
@@ -58,13 +58,12 @@ pub fn full_seconds(count: usize, dice: &mut Dice) -> PlannerCase {
         count: many.count,
     };
     let fixed = worlds::world(scene.shape, Policy::Fixed, dice);
-    let mut script = Script::new();
     script.many(&filler(fixed, (0, 0), dice), many);
     near_full(scene, script, dice.between(10, 30), dice)
 }
 
 /// As many steps in a second as there may be, or nearly.
-pub fn full_second(count: usize, dice: &mut Dice) -> PlannerCase {
+pub fn full_second(mut script: Script, count: usize, dice: &mut Dice) -> PlannerCase {
     let policy = dice.pick(&POLICIES);
     let mut scene = Scene::new(Shape::small(dice), policy, dice);
     let many = Many {
@@ -80,13 +79,17 @@ pub fn full_second(count: usize, dice: &mut Dice) -> PlannerCase {
     };
     let mut fixed = worlds::world(scene.shape, Policy::Fixed, dice);
     fixed.kind = Kind::Constant;
-    let mut script = Script::new();
     script.many(&filler(fixed, (0, 0), dice), many);
     near_full(scene, script, 12, dice)
 }
 
 /// As many workers as there may be, or nearly; and as many seconds, where that is said.
-pub fn full_workers(count: usize, has_seconds: bool, dice: &mut Dice) -> PlannerCase {
+pub fn full_workers(
+    mut script: Script,
+    count: usize,
+    has_seconds: bool,
+    dice: &mut Dice,
+) -> PlannerCase {
     let mut scene = Scene::new(Shape::small(dice), Policy::GatedAggregate, dice);
     let mut world = (*scene.world).clone();
     world.cooldown = dice.pick(&[2, 3]);
@@ -100,7 +103,6 @@ pub fn full_workers(count: usize, has_seconds: bool, dice: &mut Dice) -> Planner
         more: 1,
         step: 0,
     };
-    let mut script = Script::new();
     script.many(&filler(world, (7, 0), dice), many);
     if has_seconds {
         let [count, more, step] = [4_096, 0, 1];

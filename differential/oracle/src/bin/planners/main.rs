@@ -27,5 +27,6 @@ fn main() -> ExitCode {
         random: |seed| (random::space(seed), random::cases(seed)),
         spoiled: planner_case::spoiled,
         spoiling: "each spoiled in one word",
+        with_calls: Some(random::with_calls),
     })
 }

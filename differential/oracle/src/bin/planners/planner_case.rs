@@ -10,6 +10,8 @@ pub struct PlannerCase {
     pub case: WordCase,
     /// What its plans met. No file holds it.
     pub met: Met,
+    /// How many calls were asked for. No file holds it.
+    pub calls: usize,
 }
 
 pub fn spoiled(turn: usize, case: PlannerCase) -> PlannerCase {
@@ -40,8 +42,8 @@ impl FileCase for PlannerCase {
 
     fn split(bytes: &[u8]) -> Option<(PlannerCase, &[u8])> {
         let (case, rest) = WordCase::split(bytes)?;
-        let met = Met::default();
-        Some((PlannerCase { case, met }, rest))
+        let (met, calls) = (Met::default(), 0);
+        Some((PlannerCase { case, met, calls }, rest))
     }
 }
 

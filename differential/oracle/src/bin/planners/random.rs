@@ -7,6 +7,7 @@ use crate::script::Script;
 use crate::world::{Policy, POLICIES};
 use crate::worlds::{self, Shape};
 use numbers::dice::Dice;
+use numbers::kept::Kept;
 use std::rc::Rc;
 
 /// The sentence that says the space.
@@ -21,29 +22,38 @@ pub fn space(seed: u64) -> String {
 
 pub fn cases(seed: u64) -> impl Iterator<Item = PlannerCase> {
     let mut dice = Dice::new(seed);
-    std::iter::repeat_with(move || case(&mut dice))
+    std::iter::repeat_with(move || case(Script::new(), &mut dice))
+}
+
+/// The planner at a place with the calls that are kept, and how many calls it has with all.
+pub fn with_calls(seed: u64, place: usize, kept: &Kept) -> (PlannerCase, usize) {
+    let mut dice = Dice::new(seed);
+    for _ in 0..place {
+        case(Script::new(), &mut dice);
+    }
+    let calls = case(Script::new(), &mut dice.clone()).calls;
+    (case(Script::of(kept.clone()), &mut dice), calls)
 }
 
 /// Four planners to one with damaged plans.
-fn case(dice: &mut Dice) -> PlannerCase {
+fn case(script: Script, dice: &mut Dice) -> PlannerCase {
     let shape = Shape::random(dice);
     match dice.below(1_000) {
-        0 if dice.once_in(100) => full_second(dice.between(999_998, 1_000_001), dice),
-        0 => full_seconds(dice.between(4_093, 4_098), dice),
-        1 | 2 => full_workers(dice.between(253, 258), dice.once_in(3), dice),
-        3..=202 => damages(shape, dice.between(20, 30), dice),
-        _ => whole(shape, dice.pick(&[1, 3, 8, 12, 20, 60]), dice),
+        0 if dice.once_in(100) => full_second(script, dice.between(999_998, 1_000_001), dice),
+        0 => full_seconds(script, dice.between(4_093, 4_098), dice),
+        1 | 2 => full_workers(script, dice.between(253, 258), dice.once_in(3), dice),
+        3..=202 => damages(script, shape, dice.between(20, 30), dice),
+        _ => whole(script, shape, dice.pick(&[1, 3, 8, 12, 20, 60]), dice),
     }
 }
 
 /// A planner of so many calls.
-pub fn whole(shape: Shape, calls: usize, dice: &mut Dice) -> PlannerCase {
+pub fn whole(script: Script, shape: Shape, calls: usize, dice: &mut Dice) -> PlannerCase {
     let policy = dice.pick(&POLICIES);
-    under(Scene::new(shape, policy, dice), calls, dice)
+    under(script, Scene::new(shape, policy, dice), calls, dice)
 }
 
-pub fn under(mut scene: Scene, calls: usize, dice: &mut Dice) -> PlannerCase {
-    let mut script = Script::new();
+pub fn under(mut script: Script, mut scene: Scene, calls: usize, dice: &mut Dice) -> PlannerCase {
     for _ in 0..calls {
         if script.is_long() {
             break;
@@ -55,11 +65,10 @@ pub fn under(mut scene: Scene, calls: usize, dice: &mut Dice) -> PlannerCase {
 }
 
 /// A planner of so many damaged plans, with sound ones between them.
-pub fn damages(shape: Shape, plans: usize, dice: &mut Dice) -> PlannerCase {
+pub fn damages(mut script: Script, shape: Shape, plans: usize, dice: &mut Dice) -> PlannerCase {
     let policy = dice.pick(&POLICIES);
     let is_full = false;
     let mut scene = Scene::new(Shape { is_full, ..shape }, policy, dice);
-    let mut script = Script::new();
     for _ in 0..plans {
         if script.is_long() {
             break;
@@ -103,7 +112,7 @@ pub fn gating(calls: usize, dice: &mut Dice) -> PlannerCase {
     while !scene.world.is_trace() {
         scene = Scene::new(shape, Policy::GatedBudget, dice);
     }
-    under(scene, calls, dice)
+    under(Script::new(), scene, calls, dice)
 }
 
 /// A planner of one worker whose width changes cost something.
@@ -121,5 +130,5 @@ pub fn switching(calls: usize, dice: &mut Dice) -> PlannerCase {
     world.cost_ms = 33.3f64.to_bits();
     scene.world = Rc::new(world);
     scene.workers.truncate(1);
-    under(scene, calls, dice)
+    under(Script::new(), scene, calls, dice)
 }

@@ -3,6 +3,7 @@ use crate::full::{full_second, full_seconds, full_workers};
 use crate::planner_case::PlannerCase;
 use crate::random::{damages, each_damage, gating, switching, under};
 use crate::scene::Scene;
+use crate::script::Script;
 use crate::world::POLICIES;
 use crate::worlds::Shape;
 use numbers::dice::Dice;
@@ -24,16 +25,16 @@ pub fn recorded() -> Vec<PlannerCase> {
     for turn in 0..8 {
         for policy in POLICIES {
             let scene = Scene::new(Shape::small(dice), policy, dice);
-            cases.push(under(scene, dice.between(3, 8), dice));
+            cases.push(under(Script::new(), scene, dice.between(3, 8), dice));
         }
         cases.push(gating(4, dice));
         cases.push(switching(8, dice));
         if turn % 2 == 0 {
-            cases.push(damages(Shape::small(dice), 8, dice));
+            cases.push(damages(Script::new(), Shape::small(dice), 8, dice));
         }
         cases.push(large(turn, dice));
     }
-    cases.push(full_second(1_000_000, dice));
+    cases.push(full_second(Script::new(), 1_000_000, dice));
     cases
 }
 
@@ -42,8 +43,8 @@ fn large(turn: usize, dice: &mut Dice) -> PlannerCase {
     match turn {
         0..=3 => each_damage(true, POLICIES[turn], dice),
         4 | 5 => each_damage(false, POLICIES[turn - 3], dice),
-        6 => full_workers(256, true, dice),
-        _ => full_seconds(4_096, dice),
+        6 => full_workers(Script::new(), 256, true, dice),
+        _ => full_seconds(Script::new(), 4_096, dice),
     }
 }
 

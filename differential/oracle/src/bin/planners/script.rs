@@ -5,6 +5,7 @@ use crate::met::Met;
 use crate::plan::{Plan, Planned, MOST_SLOTS, WHOLE};
 use crate::planner_case::PlannerCase;
 use crate::world::World;
+use numbers::kept::Kept;
 use numbers::word_case::WordCase;
 use oracle::clock::end_in;
 use oracle::simulation::spec::SpecPlanner;
@@ -42,11 +43,18 @@ pub struct Script {
     registers: Vec<u64>,
     world: Option<Rc<World>>,
     lists: [Vec<u64>; 11],
+    /// Which calls are made, and how many were asked for.
+    kept: Kept,
+    asked: usize,
 }
 
 impl Script {
-    /// The first call empties the storage.
     pub fn new() -> Script {
+        Script::of(Kept::All)
+    }
+
+    /// The first call empties the storage; of the others those are made that are kept.
+    pub fn of(kept: Kept) -> Script {
         let mut script = Script {
             held: Held::new(),
             input: Vec::new(),
@@ -57,6 +65,8 @@ impl Script {
             registers: vec![0; 21],
             world: None,
             lists: Default::default(),
+            kept,
+            asked: 0,
         };
         script.turn(b'f', &[]);
         script.answer.push(0);
@@ -68,7 +78,14 @@ impl Script {
         PlannerCase {
             case: WordCase::new(kind, self.input, answer),
             met: self.met,
+            calls: self.asked,
         }
+    }
+
+    /// Whether the next call is made.
+    fn is_next_kept(&mut self) -> bool {
+        self.asked += 1;
+        self.kept.has(self.asked - 1)
     }
 
     /// Whether it has as many words as a case should have.
@@ -114,6 +131,9 @@ impl Script {
     }
 
     pub fn plan(&mut self, plan: Plan) {
+        if !self.is_next_kept() {
+            return;
+        }
         assert!(plan.storage <= WHOLE && plan.drafts.max(plan.commits) <= MOST_SLOTS);
         self.set(&plan);
         self.turn(b'p', &words(&plan, plan.end));
@@ -148,6 +168,9 @@ impl Script {
     }
 
     pub fn many(&mut self, plan: &Plan, many: Many) {
+        if !self.is_next_kept() {
+            return;
+        }
         self.set(plan);
         let steps = [many.count, many.more, many.step];
         self.turn(b'm', &[&words(plan, many.second), &steps[..]].concat());
@@ -167,18 +190,27 @@ impl Script {
     }
 
     pub fn collect(&mut self, (a, b): (u64, u64)) {
+        if !self.is_next_kept() {
+            return;
+        }
         self.turn(b'c', &[a, b]);
         let stall = self.held.collect(a, b);
         self.answer.extend([0, stall]);
     }
 
     pub fn withdraw(&mut self) {
+        if !self.is_next_kept() {
+            return;
+        }
         self.turn(b'w', &[]);
         let refusal = self.held.withdraw();
         self.answer.push(refusal);
     }
 
     pub fn record(&mut self, (a, b): (u64, u64)) {
+        if !self.is_next_kept() {
+            return;
+        }
         self.turn(b'k', &[a, b]);
         match self.held.record(a, b) {
             Some((width, rounds, stall)) => {
@@ -191,17 +223,26 @@ impl Script {
     }
 
     pub fn counts(&mut self) {
+        if !self.is_next_kept() {
+            return;
+        }
         self.turn(b'h', &[]);
         let counts = self.held.counts();
         self.answer.extend(counts.iter().flat_map(|&n| [0, n]));
     }
 
     pub fn figure(&mut self) {
+        if !self.is_next_kept() {
+            return;
+        }
         self.turn(b'g', &[]);
         self.answer.extend([0, self.held.day_figure()]);
     }
 
     pub fn accepted(&mut self, draft: u32, commits: Option<u32>) {
+        if !self.is_next_kept() {
+            return;
+        }
         let round = [commits.is_some().into(), commits.unwrap_or(0).into()];
         self.turn(b'a', &[u64::from(draft), round[0], round[1]]);
         self.answer
@@ -210,6 +251,9 @@ impl Script {
 
     /// The series in buffers of so many slots, as many of each as are written, and one more.
     pub fn series(&mut self, slots: usize) {
+        if !self.is_next_kept() {
+            return;
+        }
         assert!(slots <= MOST_SERIES);
         self.turn(b'v', &[slots as u64]);
         let series = self.held.series();
