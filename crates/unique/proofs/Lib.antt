@@ -22,5 +22,12 @@ pub mod Settings
 pub mod Asking
 pub mod Planner
 pub mod CaseFiles
-pub mod BenchExports
-pub mod BenchPlans
+pub mod LedgerSums
+pub mod DayLine
+pub mod DayNames
+pub mod DayShapes
+pub mod DayFields
+pub mod DayPaths
+pub mod DayClock
+pub mod DayLists
+pub mod Latchmeander
