@@ -18,6 +18,7 @@ pub mod rounding;
 pub mod sample;
 pub mod sampling;
 pub mod second;
+pub mod shapes;
 pub mod spellings;
 pub mod spoil;
 pub mod ties;

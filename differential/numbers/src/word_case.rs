@@ -1,6 +1,7 @@
 //! The case that serves every call: words go in, and words come out.
 use crate::case_file::FileCase;
 use crate::sampling::in_turn;
+use crate::shapes::{shape_of, Shapes};
 use std::collections::BTreeMap;
 use std::fmt::{self, Display};
 
@@ -26,17 +27,25 @@ pub struct WordCase {
     pub answer: Vec<u64>,
     /// Why the Rust answers where the rules refuse. No file holds it.
     pub alone: Option<String>,
+    /// Which traits its input has. No file holds it.
+    pub shape: Option<String>,
 }
 
 impl WordCase {
     pub fn new(kind: u8, input: Vec<u64>, answer: Vec<u64>) -> WordCase {
-        let alone = None;
         WordCase {
             kind,
             input,
             answer,
-            alone,
+            alone: None,
+            shape: None,
         }
+    }
+
+    /// With the traits that its input has.
+    pub fn with_traits(mut self, traits: &[(&str, bool)]) -> WordCase {
+        self.shape = Some(shape_of(traits));
+        self
     }
 
     /// With why the Rust answers where the rules refuse, where it does.
@@ -109,6 +118,8 @@ struct KindFigures {
     cases: usize,
     refused: BTreeMap<u64, usize>,
     rust_alone: BTreeMap<String, usize>,
+    /// Of those that are answered.
+    shapes: Shapes,
 }
 
 impl FileCase for WordCase {
@@ -122,6 +133,9 @@ impl FileCase for WordCase {
         }
         if let Some(why) = &self.alone {
             *kind.rust_alone.entry(why.clone()).or_default() += 1;
+        }
+        if let (0, Some(shape)) = (self.refusal(), &self.shape) {
+            kind.shapes.count(shape.clone());
         }
     }
 
@@ -169,6 +183,9 @@ impl Display for Figures {
             if !kind.rust_alone.is_empty() {
                 let alone = counts(&kind.rust_alone);
                 write!(f, "; answered by the Rust alone {alone}")?;
+            }
+            if !kind.shapes.is_empty() {
+                write!(f, "; {}", kind.shapes)?;
             }
         }
         Ok(())

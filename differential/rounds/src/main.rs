@@ -117,6 +117,9 @@ fn print(runs: &[Runs], differing: u64) {
         print!("{}", indented(&runs.answered));
         println!("  written, by what the rules answer:");
         print!("{}", indented(&runs.written.clone().named(kind.functions)));
+        if runs.written.shapes() > 0 {
+            println!("  distinct shapes met: {}", runs.written.shapes());
+        }
         all += runs.cases;
     }
     println!("{all} runs, {differing} differing");

@@ -47,6 +47,18 @@ impl Tally {
     }
 }
 
+/// The name of the part that counts shapes.
+const SHAPES: &str = "shapes";
+
+impl Tally {
+    /// How many shapes were met, each once for each line.
+    pub fn shapes(&self) -> usize {
+        let parts = self.lines.iter().flatten();
+        let shapes = parts.filter(|part| part.name == SHAPES);
+        shapes.map(|part| part.counts.len()).sum()
+    }
+}
+
 fn add_part(line: &mut Vec<Part>, more: Part) {
     let Some(part) = line.iter_mut().find(|part| part.head == more.head) else {
         line.push(more);

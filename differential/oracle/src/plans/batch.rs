@@ -3,6 +3,7 @@ use crate::drafter::{Drafter, Others, Rates, MOST_GAMMA, MOST_SEQUENCES};
 use crate::plans::chains::{Chains, SLOTS};
 use crate::plans::gate::{Chosen, Gate};
 use crate::plans::goodput::{expected, Costs};
+use crate::plans::prices::{is_deep, INFINITY, MINUS_ZERO};
 use crate::plans::unchanged;
 use crate::range::in_range_or_infinite;
 use crate::unchanged::floats;
@@ -43,12 +44,21 @@ impl Batch {
     }
 
     pub fn case(&self, asked: Asked) -> WordCase {
-        match asked {
+        let case = match asked {
             Asked::Expected => self.expected(),
             Asked::Depth => self.depth(),
             Asked::Ragged => self.gate(b'r', |gate| gate.ragged(), unchanged::Asked::ragged),
             Asked::Block => self.gate(b'v', |gate| gate.block(), unchanged::Asked::block),
-        }
+        };
+        case.with_traits(&[
+            ("deep", is_deep(self.gamma)),
+            (
+                "uneven",
+                self.lengths.iter().any(|&length| length != self.lengths[0]),
+            ),
+            ("with holes", self.prices().contains(&INFINITY)),
+            ("minus zero", self.chains.rows.contains(&MINUS_ZERO)),
+        ])
     }
 
     fn words(&self) -> Vec<u64> {

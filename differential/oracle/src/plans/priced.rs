@@ -2,6 +2,7 @@
 //! that are lent.
 use crate::drafter::{Drafter, Others, Rates, MOST_GAMMA};
 use crate::plans::goodput::Costs;
+use crate::plans::prices::{is_deep, INFINITY};
 use crate::plans::unchanged;
 use crate::range::{in_range, in_range_or_infinite};
 use crate::unchanged::floats;
@@ -28,16 +29,26 @@ pub enum Asked {
 impl Priced {
     pub fn case(&self) -> WordCase {
         let none = &[][..];
-        match &self.asked {
+        let (case, has_holes) = match &self.asked {
             Asked::Total { verify } => {
                 let answer = self.total(*verify);
-                WordCase::new(b't', self.words(*verify, none, none), answer.to_vec())
+                let words = self.words(*verify, none, none);
+                (
+                    WordCase::new(b't', words, answer.to_vec()),
+                    *verify == INFINITY,
+                )
             }
             Asked::Best { expected, curve } => {
                 let answer = self.best(expected, curve);
-                WordCase::new(b'd', self.words(0, expected, curve), answer.to_vec())
+                let words = self.words(0, expected, curve);
+                let has_holes = curve
+                    .iter()
+                    .take(self.gamma as usize + 1)
+                    .any(|&price| price == INFINITY);
+                (WordCase::new(b'd', words, answer.to_vec()), has_holes)
             }
-        }
+        };
+        case.with_traits(&[("deep", is_deep(self.gamma)), ("with holes", has_holes)])
     }
 
     fn words(&self, verify: u64, expected: &[u64], curve: &[u64]) -> Vec<u64> {

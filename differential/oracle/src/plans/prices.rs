@@ -6,6 +6,11 @@ use numbers::dice::Dice;
 pub const INFINITY: u64 = 0x7ff0_0000_0000_0000;
 pub const MINUS_ZERO: u64 = 0x8000_0000_0000_0000;
 
+/// Whether a depth counts as deep among the shapes of the cases.
+pub fn is_deep(gamma: u32) -> bool {
+    gamma > 16
+}
+
 /// How large the prices of a case are.
 const SCALES: &[f64] = &[1.0, 1.0, 1.0, 0.015625, 0.02, 1e-9, 1e6];
 

@@ -41,6 +41,7 @@ impl Sequence {
         let mut buffers = Buffers::lent(self.slots);
         let mut ledger = Ledger::new(&self.workers);
         let mut held = ledger.afresh();
+        let mut outcomes = Vec::new();
         for call in &self.calls {
             input.extend(self.words(call, &held));
             let (outcome, sums) = if self.is_short() {
@@ -52,11 +53,34 @@ impl Sequence {
                 (outcome, of_held(&held, ledger.available, &mut buffers))
             };
             answer.extend([outcome.refusal, outcome.value, sums.first, sums.second]);
+            outcomes.push(outcome);
         }
         let kept = if self.is_short() { WHOLE } else { WHOLE - ROOM };
         let sums = Sums::default().and(std::iter::repeat_n(WORD_BEFORE, kept));
         answer.extend([sums.first, sums.second]);
-        SequenceCase(WordCase::new(self.kind, input, answer))
+        let case = WordCase::new(self.kind, input, answer);
+        SequenceCase(case.with_traits(&self.traits(&outcomes)))
+    }
+
+    /// What its calls met: a stall that was collected, a withdrawal, a clock that went back.
+    fn traits(&self, outcomes: &[Outcome]) -> [(&'static str, bool); 3] {
+        let mut calls = self.calls.iter().zip(outcomes);
+        let stalled = |(call, outcome): (&Call, &Outcome)| {
+            matches!(call, Call::Collect { .. }) && outcome.value > 0
+        };
+        let withdrawn = |(call, outcome): (&Call, &Outcome)| {
+            matches!(call, Call::Withdraw) && outcome.refusal == 0
+        };
+        let ends = self.calls.iter().filter_map(|call| match call {
+            Call::Plan { end, .. } | Call::Decide { end, .. } => Some(second(*end)),
+            _ => None,
+        });
+        let ends: Vec<u64> = ends.collect();
+        [
+            ("stalled", calls.clone().any(stalled)),
+            ("withdrawn", calls.any(withdrawn)),
+            ("clock back", ends.windows(2).any(|pair| pair[1] < pair[0])),
+        ]
     }
 
     fn is_short(&self) -> bool {

@@ -1,5 +1,6 @@
 //! A sequence's case, and the figures of a file of them.
 use numbers::case_file::FileCase;
+use numbers::shapes::Shapes;
 use numbers::word_case::WordCase;
 use std::collections::BTreeMap;
 use std::fmt::{self, Display};
@@ -30,6 +31,8 @@ pub struct Figures {
     calls: usize,
     longest: usize,
     refused: BTreeMap<u64, usize>,
+    /// Of those on a storage of enough words.
+    shapes: Shapes,
 }
 
 impl FileCase for SequenceCase {
@@ -42,6 +45,9 @@ impl FileCase for SequenceCase {
         figures.longest = figures.longest.max(calls);
         for refusal in self.refusals().filter(|&refusal| refusal > 0) {
             *figures.refused.entry(refusal).or_default() += 1;
+        }
+        if let (0, Some(shape)) = (self.0.refusal(), &self.0.shape) {
+            figures.shapes.count(shape.clone());
         }
     }
 
@@ -65,6 +71,7 @@ impl Display for Figures {
         write!(f, "\ncalls {}, at most {}", self.calls, self.longest)?;
         let refused = self.refused.iter();
         let refused: Vec<String> = refused.map(|(key, n)| format!("{key}: {n}")).collect();
-        write!(f, "; refused {}", refused.join(", "))
+        write!(f, "; refused {}", refused.join(", "))?;
+        write!(f, "; {}", self.shapes)
     }
 }

@@ -1,8 +1,10 @@
 //! What the plans of cases met: each refusal, and each way in which a plan was made.
 use crate::judge::is_constrained;
 use crate::plan::Planned;
-use crate::world::World;
+use crate::world::{Policy, World, ROOFLINE};
+use numbers::shapes::{shape_of, Shapes};
 use oracle::drafter::Drafter;
+use oracle::plans::prices::{is_deep, INFINITY};
 use std::fmt::{self, Display};
 
 const POLICIES: [&str; 4] = ["Fixed", "GoodputBudget", "GatedBudget", "GatedAggregate"];
@@ -23,11 +25,13 @@ pub struct Met {
     pub switching: [u64; 2],
     pub weighed: u64,
     pub sequences: u64,
+    pub shapes: Shapes,
 }
 
 impl Met {
-    pub fn count(&mut self, world: &World, planned: &Planned) {
-        let (weighed, sequences) = match planned {
+    /// A plan and what it answered; `stalled`: whether its worker had a stall before it.
+    pub fn count(&mut self, world: &World, planned: &Planned, stalled: bool) {
+        let (weighed, drafts) = match planned {
             Planned::Refused(number) => {
                 self.refused[*number as usize] += 1;
                 return;
@@ -38,7 +42,7 @@ impl Met {
             }
             Planned::Plan {
                 weighed, drafts, ..
-            } => (weighed, drafts.len() as u64),
+            } => (weighed, drafts),
         };
         let drafter = match world.drafter {
             Drafter::Fraction { frac: 0 } => 0,
@@ -52,7 +56,13 @@ impl Met {
         self.prices[usize::from(world.has_table)] += 1;
         self.switching[usize::from(is_constrained(world))] += 1;
         self.weighed += weighed;
-        self.sequences += sequences;
+        self.sequences += drafts.len() as u64;
+        self.shapes.count(shape_of(&[
+            ("deep", is_deep(world.capped())),
+            ("uneven", drafts.iter().any(|&draft| draft != drafts[0])),
+            ("with holes", has_holes(world)),
+            ("stalled", stalled),
+        ]));
     }
 
     pub fn add(&mut self, more: &Met) {
@@ -72,10 +82,24 @@ impl Met {
         self.empty += more.empty;
         self.weighed += more.weighed;
         self.sequences += more.sequences;
+        self.shapes.add(&more.shapes);
     }
 
     pub fn made(&self) -> u64 {
         self.policies.iter().sum()
+    }
+}
+
+/// Whether a depth that a plan may draft to has no finite price.
+fn has_holes(world: &World) -> bool {
+    let mut depths = 0..=world.capped();
+    match world.table() {
+        _ if world.policy == Policy::Fixed => false,
+        Some(rows) if world.has_table => depths.any(|g| rows.iter().all(|row| row.0 != g)),
+        _ => {
+            let prices = world.lists[ROOFLINE].iter().take(depths.count());
+            prices.clone().any(|&price| price == INFINITY)
+        }
     }
 }
 
@@ -103,6 +127,7 @@ impl Display for Met {
         writeln!(f, "{}", named(&MODELS, &self.models))?;
         writeln!(f, "{}", named(&DRAFTERS, &self.drafters))?;
         writeln!(f, "{}", named(&PRICES, &self.prices))?;
-        write!(f, "{}", named(&SWITCHING, &self.switching))
+        writeln!(f, "{}", named(&SWITCHING, &self.switching))?;
+        write!(f, "{}", self.shapes)
     }
 }

@@ -138,8 +138,10 @@ impl Script {
         self.set(&plan);
         self.turn(b'p', &words(&plan, plan.end));
         let plan = Rc::new(plan);
+        let before = self.held.record(plan.a, plan.b);
         let planned = self.held.plan(&plan);
-        self.met.count(&plan.world, &planned);
+        let stalled = before.is_some_and(|(_, _, stall)| stall > 0.0);
+        self.met.count(&plan.world, &planned, stalled);
         self.plans += 1;
         self.put_planned(&plan, &planned);
     }
