@@ -1,0 +1,25 @@
+-- `chances::front` meets its contract: the whole where there are no more. Assumes nothing.
+use mathlib.Core.Path.{sym}
+use native.Mathlib.Omega.{arith}
+use lib.ListN.{length-take}
+use lib.Seq.{take-all}
+use borrow.Author.Needs.{needs}
+use Rattle.exported_batches.proofs.chances.front.Statement.{statement}
+use Rattle.exported_batches.proofs.chances.front.Tie as tie
+
+slice-aggregate-result : tie.Need-slice-aggregate-result
+slice-aggregate-result c = simp length-take (omega arith)
+
+returns : tie.Need-returns
+returns c = search needs
+
+returns-2 : tie.Need-returns-2
+returns-2 c = sym (take-all 64 (c .before .args .signal .now) (c .if1 .left))
+
+pub front-spec : {M : Type 1} → statement M
+front-spec =
+    tie.close
+    (tie.spec
+    slice-aggregate-result
+    returns
+    returns-2)

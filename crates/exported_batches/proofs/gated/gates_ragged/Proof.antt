@@ -1,0 +1,40 @@
+-- `gates_ragged` meets its contract: the drafter and the rates are those of their numbers, and the widths are as the gate left them. Assumes nothing.
+use Rattle.speculative.specs.declared.drafter.DrafterCost.{DrafterCost}
+use Rattle.speculative.specs.declared.drafter.Rates.{Rates}
+use Rattle.gates.specs.Entry.{raggedAnswer}
+use Rattle.exported_costs.proofs.Handed.{asked-of}
+use Rattle.exported_batches.proofs.Handed.{widths-handed}
+use borrow.Author.Needs.{needs}
+use Rattle.exported_batches.proofs.gated.gates_ragged.Statement.{statement}
+use Rattle.exported_batches.proofs.gated.gates_ragged.Tie as tie
+
+drafter-of-requires : tie.Need-drafter-of-requires
+drafter-of-requires c κs = search needs
+
+rates-of-requires : tie.Need-rates-of-requires
+rates-of-requires c κs = search needs
+
+gated-ragged-draft-requires : tie.Need-gated-ragged-draft-requires
+gated-ragged-draft-requires c κs = search needs
+
+of-gated-requires : tie.Need-of-gated-requires
+of-gated-requires c κs = search needs
+
+same-length : tie.Need-same-length
+same-length c = search needs
+
+returns : tie.Need-returns
+returns c =
+    let a = c .before .before .before .before .before .before .before .before .before .before .before .before .args in
+    widths-handed _ _ _ _ (c .of-gated .ensures) (asked-of (λ (k : DrafterCost). λ (s : Rates). raggedAnswer (a .chains .now) (a .lengths .now) (a .curve .now) (a .gamma) k s (a .loaded .now) (a .widths .now)) (c .before .before .before .gated-ragged-draft .ensures) (c .before .before .before .before .before .before .drafter-of .ensures) (c .before .before .before .before .before .rates-of .ensures))
+
+pub gates-ragged-spec : {M : Type 1} → statement M
+gates-ragged-spec =
+    tie.close
+    (tie.spec
+    drafter-of-requires
+    rates-of-requires
+    gated-ragged-draft-requires
+    of-gated-requires
+    same-length
+    returns)

@@ -1,0 +1,3 @@
+mod Cases
+mod Prices
+pub mod Handed

@@ -1,0 +1,54 @@
+-- `answers::of_batch` meets its contract: each arm has its case. Assumes nothing.
+use mathlib.Core.Path.{sym, ap, _∙_}
+use Rattle.exported_costs.specs.Answers.{batchTold}
+use borrow.Author.Needs.{needs}
+use Rattle.exported_costs.proofs.answers.of_batch.Statement.{statement}
+use Rattle.exported_costs.proofs.answers.of_batch.Tie as tie
+
+enum-known-answer : tie.Need-enum-known-answer
+enum-known-answer c = search needs
+
+cast-tell : tie.Need-cast-tell
+cast-tell c = search needs
+
+tell-requires : tie.Need-tell-requires
+tell-requires c κs = search needs
+
+enum-told : tie.Need-enum-told
+enum-told c = search needs
+
+tell-requires-2 : tie.Need-tell-requires-2
+tell-requires-2 c κs = search needs
+
+enum-known-answer-2 : tie.Need-enum-known-answer-2
+enum-known-answer-2 c = search needs
+
+refused-requires : tie.Need-refused-requires
+refused-requires c κs = search needs
+
+returns : tie.Need-returns
+unfolding batchTold
+returns c = c .tell .ensures ∙ ap batchTold (sym (c .before .before .answer .given .1))
+
+returns-2 : tie.Need-returns-2
+unfolding batchTold
+returns-2 c = c .tell2 .ensures ∙ ap batchTold (sym (c .before .enum-told .given .1))
+
+returns-3 : tie.Need-returns-3
+unfolding batchTold
+returns-3 c = c .refused .ensures ∙ ap batchTold (sym (c .before .before .answer2 .given .1))
+
+pub of-batch-spec : {M : Type 1} → statement M
+of-batch-spec =
+    tie.close
+    (tie.spec
+    enum-known-answer
+    cast-tell
+    tell-requires
+    enum-told
+    tell-requires-2
+    enum-known-answer-2
+    refused-requires
+    returns
+    returns-2
+    returns-3)
