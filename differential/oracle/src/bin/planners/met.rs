@@ -1,8 +1,8 @@
 //! What the plans of cases met: each refusal, and each way in which a plan was made.
-use crate::judge::is_constrained;
-use crate::plan::Planned;
-use crate::world::World;
 use oracle::drafter::Drafter;
+use oracle::planners::judge::is_constrained;
+use oracle::planners::plan::Planned;
+use oracle::planners::world::World;
 use std::fmt::{self, Display};
 
 const POLICIES: [&str; 4] = ["Fixed", "GoodputBudget", "GatedBudget", "GatedAggregate"];
