@@ -7,11 +7,14 @@ extern crate std_lent as std;
 include!(concat!(env!("OUT_DIR"), "/modules.rs"));
 
 pub mod agreement;
+pub mod banks;
 pub mod clock;
+pub mod costs;
 pub mod drafter;
 pub mod drafter_values;
 pub mod lent_model;
 pub mod model;
+pub mod planners;
 pub mod plans;
 pub mod range;
 pub mod refusals;

@@ -103,28 +103,30 @@ impl Batch {
         unchanged::Asked::new(self.costs(), self.gamma, floats(self.prices()))
     }
 
-    /// 11, then 16, then 15: the drafter, the rates and the curve are not used.
-    fn expected_refusal(&self) -> u8 {
+    /// The bits of the expected acceptance at the depths 0 to gamma; 11, then 16, then 15: the drafter,
+    /// the rates and the curve are not used.
+    pub fn expected_values(&self) -> Result<Vec<u64>, u8> {
         if self.gamma > MOST_GAMMA || self.n() > MOST_SEQUENCES {
-            11
-        } else if !self.are_slots() || self.room <= self.gamma as usize {
-            16
-        } else if !self.are_survivals() {
-            15
-        } else {
-            0
+            return Err(11);
         }
+        if !self.are_slots() || self.room <= self.gamma as usize {
+            return Err(16);
+        }
+        if !self.are_survivals() {
+            return Err(15);
+        }
+        let values = expected(&self.chains.floats(&self.lengths), self.gamma);
+        Ok(values.into_iter().map(bits_of).collect())
     }
 
     fn expected(&self) -> WordCase {
-        let refusal = self.expected_refusal();
-        let mut answer = vec![u64::from(refusal)];
-        if refusal == 0 {
+        let values = self.expected_values();
+        let mut answer = vec![values.as_ref().map_or_else(|&number| number.into(), |_| 0)];
+        if let Ok(values) = values {
             let chains = self.chains.floats(&self.lengths);
-            let values = expected(&chains, self.gamma).into_iter().map(bits_of);
             let rust = unchanged::expected(&chains, self.gamma);
+            assert_eq!(values, rust, "{self:x?}");
             answer.extend(values);
-            assert_eq!(answer[1..], rust, "{self:x?}");
         }
         answer.resize(1 + self.room, FLOAT_BEFORE);
         WordCase::new(b'e', self.words(), answer)
@@ -149,15 +151,31 @@ impl Batch {
             .best_depth(&expected(chains, self.gamma), &prices)
     }
 
+    /// The best depth, or the refusal's number.
+    pub fn best_depth(&self) -> Result<u32, u8> {
+        self.judged(true)?;
+        Ok(self.best(&self.chains.floats(&self.lengths)))
+    }
+
     fn depth(&self) -> WordCase {
-        let answer = self.judged(true).map(|()| {
+        let answer = self.best_depth().inspect(|&depth| {
             let chains = self.chains.floats(&self.lengths);
-            let depth = self.best(&chains);
             assert_eq!(depth, self.unchanged().depth(&chains), "{self:x?}");
-            depth
         });
         let answer = answer.map_or_else(|number| [number.into(), 0], |depth| [0, depth.into()]);
         WordCase::new(b'a', self.words(), answer.to_vec())
+    }
+
+    /// What a gate chooses, or the refusal's number.
+    pub fn chosen(&self, choose: fn(&Gate) -> Chosen) -> Result<Chosen, u8> {
+        self.judged(self.n() <= self.room)?;
+        let chains = self.chains.floats(&self.lengths);
+        Ok(choose(&Gate {
+            chains: &chains,
+            prices: &floats(self.prices()),
+            depth: self.best(&chains),
+            costs: self.costs(),
+        }))
     }
 
     fn gate(
@@ -166,17 +184,9 @@ impl Batch {
         ours: fn(&Gate) -> Chosen,
         rust: fn(&unchanged::Asked, &[Vec<f64>]) -> Chosen,
     ) -> WordCase {
-        let chosen = self.judged(self.n() <= self.room).map(|()| {
+        let chosen = self.chosen(ours).inspect(|chosen| {
             let chains = self.chains.floats(&self.lengths);
-            let gate = Gate {
-                chains: &chains,
-                prices: &floats(self.prices()),
-                depth: self.best(&chains),
-                costs: self.costs(),
-            };
-            let chosen = ours(&gate);
-            assert_eq!(chosen, rust(&self.unchanged(), &chains), "{self:x?}");
-            chosen
+            assert_eq!(*chosen, rust(&self.unchanged(), &chains), "{self:x?}");
         });
         let mut answer = match chosen {
             Ok(chosen) => {

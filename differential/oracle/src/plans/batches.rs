@@ -121,7 +121,7 @@ fn lengths(n: usize, width: usize, dice: &mut Dice) -> Vec<u32> {
 }
 
 /// A batch in which nothing is refused, but for sizes that are passed; a third of the curves has holes.
-fn whole(shape: Shape, dice: &mut Dice) -> Batch {
+pub fn whole(shape: Shape, dice: &mut Dice) -> Batch {
     let Shape { n, gamma } = shape;
     let pricing = Pricing::random(dice);
     let (drafter, rates) = pricing.drafter(dice);
@@ -153,7 +153,7 @@ fn whole(shape: Shape, dice: &mut Dice) -> Batch {
 }
 
 /// One of the values becomes another.
-fn put(values: &mut [u64], value: u64, dice: &mut Dice) {
+pub fn put(values: &mut [u64], value: u64, dice: &mut Dice) {
     if !values.is_empty() {
         let at = dice.between(0, values.len() - 1);
         values[at] = value;
@@ -161,7 +161,7 @@ fn put(values: &mut [u64], value: u64, dice: &mut Dice) {
 }
 
 /// One slot less, or more slots, which are not used.
-fn lengthen(values: &mut Vec<u64>, dice: &mut Dice) {
+pub fn lengthen(values: &mut Vec<u64>, dice: &mut Dice) {
     if dice.once_in(2) {
         values.pop();
     }
@@ -171,7 +171,7 @@ fn lengthen(values: &mut Vec<u64>, dice: &mut Dice) {
 }
 
 /// One thing that is not as it was.
-fn change(batch: &mut Batch, dice: &mut Dice) {
+pub fn change(batch: &mut Batch, dice: &mut Dice) {
     let special = dice.pick(SPECIALS);
     match dice.below(12) {
         0 => put(&mut batch.chains.rows, special, dice),
@@ -234,7 +234,7 @@ fn special_price(dice: &mut Dice) -> u64 {
 }
 
 /// So many expected values of n sequences: mostly rising, at times of any size or order.
-fn expected(count: usize, n: usize, dice: &mut Dice) -> Vec<u64> {
+pub fn expected(count: usize, n: usize, dice: &mut Dice) -> Vec<u64> {
     let style = dice.below(6);
     let mut sum = 0.0;
     let mut next = |dice: &mut Dice| {

@@ -32,8 +32,8 @@ pub fn of_model(model: &Model, n: u32, room: usize) -> WordCase {
     WordCase::new(b'm', input.concat(), answer(values, room))
 }
 
-/// 12 and 11 as a model gives them, 11 for n, then 16.
-fn model_values(model: &Model, n: u32, room: usize) -> Result<Vec<u64>, u8> {
+/// The bits of the values of a model; 12 and 11 as a model gives them, 11 for n, then 16.
+pub fn model_values(model: &Model, n: u32, room: usize) -> Result<Vec<u64>, u8> {
     model.expected()?;
     if n as usize > MOST_SEQUENCES {
         return Err(11);
@@ -64,8 +64,14 @@ pub fn of_bank(curve: &[u64], depth: u32, gamma: u32, n: u32, room: usize) -> Wo
     WordCase::new(b'b', input.concat(), answer(values, room))
 }
 
-/// 11, then 16, then 15.
-fn bank_values(curve: &[u64], depth: u32, gamma: u32, n: u32, room: usize) -> Result<Vec<u64>, u8> {
+/// The bits of the values of a bank; 11, then 16, then 15.
+pub fn bank_values(
+    curve: &[u64],
+    depth: u32,
+    gamma: u32,
+    n: u32,
+    room: usize,
+) -> Result<Vec<u64>, u8> {
     let are_sizes = (1..=64).contains(&depth) && gamma <= MOST_GAMMA;
     if !are_sizes || n as usize > MOST_SEQUENCES {
         return Err(11);

@@ -83,34 +83,45 @@ impl Priced {
             .judged(self.n as usize, self.rates, &self.loaded, others)
     }
 
-    /// The refusal, and the bits of the seconds.
-    fn total(&self, verify: u64) -> [u64; 2] {
-        if let Err(number) = self.judged(true, is_price(verify)) {
-            return [number.into(), 0];
-        }
-        let price = f64::from_bits(verify);
-        let seconds = bits_of(self.costs().total(self.gamma, price));
-        let prices = vec![price; self.gamma as usize + 1];
-        let rust = unchanged::Asked::new(self.costs(), self.gamma, prices);
-        assert_eq!(seconds, bits_of(rust.total_cost(self.gamma)), "{self:x?}");
-        [0, seconds]
+    /// The bits of the seconds, or the refusal's number.
+    pub fn total_seconds(&self, verify: u64) -> Result<u64, u8> {
+        self.judged(true, is_price(verify))?;
+        Ok(bits_of(
+            self.costs().total(self.gamma, f64::from_bits(verify)),
+        ))
     }
 
-    /// The refusal, and the depth.
-    fn best(&self, expected: &[u64], curve: &[u64]) -> [u64; 2] {
+    /// The refusal, and the bits of the seconds.
+    fn total(&self, verify: u64) -> [u64; 2] {
+        let seconds = self.total_seconds(verify).inspect(|&seconds| {
+            let prices = vec![f64::from_bits(verify); self.gamma as usize + 1];
+            let rust = unchanged::Asked::new(self.costs(), self.gamma, prices);
+            assert_eq!(seconds, bits_of(rust.total_cost(self.gamma)), "{self:x?}");
+        });
+        seconds.map_or_else(|number| [number.into(), 0], |seconds| [0, seconds])
+    }
+
+    /// The best depth, or the refusal's number.
+    pub fn best_depth(&self, expected: &[u64], curve: &[u64]) -> Result<u32, u8> {
         let count = self.gamma as usize + 1;
         let are_rooms = count <= expected.len() && count <= curve.len();
         let is_expected = |&e: &u64| in_range(e, 0.0, 65536.0);
         let are_values = expected.iter().take(count).all(is_expected)
             && curve.iter().take(count).all(|&price| is_price(price));
-        if let Err(number) = self.judged(are_rooms, are_values) {
-            return [number.into(), 0];
-        }
+        self.judged(are_rooms, are_values)?;
         let [expected, prices] = [expected, curve].map(|list| floats(&list[..count]));
-        let depth = self.costs().best_depth(&expected, &prices);
-        let rust = unchanged::Asked::new(self.costs(), self.gamma, prices);
-        assert_eq!(depth, rust.best_depth(&expected), "{self:x?}");
-        [0, depth.into()]
+        Ok(self.costs().best_depth(&expected, &prices))
+    }
+
+    /// The refusal, and the depth.
+    fn best(&self, expected: &[u64], curve: &[u64]) -> [u64; 2] {
+        let depth = self.best_depth(expected, curve).inspect(|&depth| {
+            let count = self.gamma as usize + 1;
+            let [expected, prices] = [expected, curve].map(|list| floats(&list[..count]));
+            let rust = unchanged::Asked::new(self.costs(), self.gamma, prices);
+            assert_eq!(depth, rust.best_depth(&expected), "{self:x?}");
+        });
+        depth.map_or_else(|number| [number.into(), 0], |depth| [0, depth.into()])
     }
 }
 

@@ -8,21 +8,25 @@ pub fn survival_chain(signal: &[u64], length: u64) -> WordCase {
     let given = &signal[..signal.len().min(SLOTS)];
     let mut slots = given.to_vec();
     slots.resize(SLOTS, NAN_BITS);
-    let used = slots.get(..length as usize);
-    let refusal = match used {
-        None => 11,
-        Some(used) if used.iter().any(|&a| !f64::from_bits(a).is_finite()) => 15,
-        Some(_) => 0,
-    };
-    let mut answer = vec![refusal];
-    if let (0, Some(used)) = (refusal, used) {
-        answer.extend(products(used));
+    let chain = chain(&slots, length);
+    let mut answer = vec![chain.as_ref().map_or_else(|&number| number.into(), |_| 0)];
+    if let Ok(chain) = chain {
         let rust = unchanged::chain(&slots, length as u32);
-        assert_eq!(answer[1..], rust, "{used:x?}");
+        assert_eq!(chain, rust, "{slots:x?}");
+        answer.extend(chain);
     }
     answer.resize(1 + SLOTS, 0);
     let input = [vec![length], listed(given.iter().copied())].concat();
     WordCase::new(b's', input, answer)
+}
+
+/// The bits of the chain of the first `length` of 64 confidences; 11, then 15.
+pub fn chain(slots: &[u64], length: u64) -> Result<Vec<u64>, u8> {
+    let used = slots.get(..length as usize).ok_or(11)?;
+    if used.iter().any(|&a| !f64::from_bits(a).is_finite()) {
+        return Err(15);
+    }
+    Ok(products(used))
 }
 
 /// The running products of what is clamped to 0..1; minus zero stays.

@@ -1,11 +1,11 @@
 //! One case: a bank's text, a model or a position of one, the rules' answer to it and the unchanged
 //! Rust's. Where the two have to agree and do not, making the case panics.
-use crate::bank::{self, Bank};
-use crate::lent::{Buffers, Room};
 use crate::unchanged;
 use numbers::case::{hex, Column, NO_ANSWER};
 use numbers::refusal::Refusal;
 use oracle::agreement::assert_agreement;
+use oracle::banks::bank::{self, Bank};
+use oracle::banks::lent::{Buffers, Room};
 use oracle::model::{Model, Sample};
 
 #[derive(Clone, Copy, Debug, PartialEq, Eq, Hash)]

@@ -2,9 +2,9 @@
 //! newline says where it ends.
 use crate::case::{Case, Kind};
 use crate::figures::Figures;
-use crate::lent::{Room, LARGEST};
 use numbers::case::Column;
 use numbers::case_file::FileCase;
+use oracle::banks::lent::{Room, LARGEST};
 
 /// Bytes of the longest text that a case may have: the replaying program's room, 262,144 bytes, has
 /// to hold a whole case.

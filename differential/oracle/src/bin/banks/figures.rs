@@ -1,8 +1,8 @@
 //! What is in a file of cases.
-use crate::bank;
 use crate::case::{Case, Kind};
 use numbers::case::NO_ANSWER;
 use numbers::refusal::Reason;
+use oracle::banks::bank;
 use std::collections::BTreeMap;
 use std::fmt::{self, Display};
 

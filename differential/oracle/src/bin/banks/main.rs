@@ -1,11 +1,8 @@
 //! Writes files of cases of trace banks, of acceptance models and of their positions' values, answered
 //! by the rules and by the unchanged Rust.
-mod bank;
-mod bank_texts;
 mod case;
 mod case_line;
 mod figures;
-mod lent;
 mod models;
 mod random;
 mod sample;

@@ -1,9 +1,9 @@
 //! Random cases from a seed, without end.
-use crate::bank_texts::{self, Table};
 use crate::case::Case;
 use crate::models;
 use crate::values;
 use numbers::dice::Dice;
+use oracle::banks::bank_texts::{self, Table};
 
 /// The sentence that says the space.
 pub fn space(seed: u64) -> String {

@@ -1,12 +1,12 @@
 //! The recorded sample: the same cases on every machine, each once.
-use crate::bank_texts::{self, one_less, Table};
 use crate::case::Case;
-use crate::lent::{Room, LARGEST};
 use crate::models;
 use crate::values;
 use numbers::dice::Dice;
 use numbers::sampling::in_turn;
 use numbers::{decimal_texts, spellings, whole_texts};
+use oracle::banks::bank_texts::{self, one_less, Table};
+use oracle::banks::lent::{Room, LARGEST};
 
 const SEED: u64 = 1;
 

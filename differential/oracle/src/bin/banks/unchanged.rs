@@ -1,5 +1,5 @@
 //! What the unchanged Rust answers.
-use crate::bank::Bank;
+use oracle::banks::bank::Bank;
 use oracle::config::TraceBank;
 use oracle::model::{Model, Sample};
 use oracle::unchanged::{acceptance, floats};

@@ -1,29 +1,10 @@
 //! Cases of switching: walks, decisions, and stalls that are collected.
-use crate::switching::{decided, first, walked, Record, Switch};
 use crate::unchanged;
 use numbers::dice::Dice;
 use numbers::word_case::{listed, WordCase};
+use oracle::costs::switches::{curve, record, switch, width, COSTS, INFINITY, STEPS};
+use oracle::costs::switching::{decided, first, walked, Record, Switch};
 use oracle::drafter_values::SPECIALS;
-
-const INFINITY: u64 = 0x7ff0_0000_0000_0000;
-const HOUR: u64 = 0x414b_7740_0000_0000; // 3,600,000
-
-/// Settings of a cost, in range and not.
-const COSTS: &[u64] = &[0, 1, HOUR, HOUR - 1, HOUR + 1, 0x3ff0_0000_0000_0000];
-
-const STEPS: &[Option<u32>] = &[
-    None,
-    None,
-    Some(0),
-    Some(1),
-    Some(1),
-    Some(2),
-    Some(3),
-    Some(64),
-    Some(65),
-    Some(u32::MAX - 1),
-    Some(u32::MAX),
-];
 
 /// Where the walk ends; the candidates ascend.
 pub fn walk(candidates: &[u32], width: u32, target: u32, max_step: Option<u32>) -> WordCase {
@@ -265,72 +246,4 @@ fn random_walk(dice: &mut Dice) -> WordCase {
         candidates.push(dice.pick(&[65, 1000, u32::MAX]));
     }
     walk(&candidates, width(dice), width(dice), dice.pick(STEPS))
-}
-
-fn width(dice: &mut Dice) -> u32 {
-    match dice.below(16) {
-        0 => dice.pick(&[63, 64, 65, 66, 1000, u32::MAX]),
-        1..=5 => dice.between(0, 64) as u32,
-        _ => dice.between(0, 9) as u32,
-    }
-}
-
-fn record(dice: &mut Dice) -> Record {
-    let rounds = match dice.below(8) {
-        0 => dice.pick(&[u32::MAX - 2, u32::MAX - 1, u32::MAX]),
-        1 => dice.bits() as u32,
-        _ => dice.between(0, 4) as u32,
-    };
-    let stall = match dice.below(8) {
-        0 => dice.pick(SPECIALS),
-        1 => dice.bits(),
-        2 | 3 => 0,
-        _ => (dice.below(10_000) as f64 / 1000.0).to_bits(),
-    };
-    Record {
-        width: width(dice),
-        rounds,
-        stall,
-    }
-}
-
-fn switch(dice: &mut Dice) -> Switch {
-    let cooldown_rounds = match dice.below(8) {
-        0 => dice.pick(&[u32::MAX - 1, u32::MAX]),
-        1 => dice.bits() as u32,
-        _ => dice.between(0, 5) as u32,
-    };
-    let cost_ms = match dice.below(16) {
-        0 => dice.pick(SPECIALS),
-        1..=3 => dice.pick(COSTS),
-        4 => dice.below(HOUR),
-        5..=7 => 0,
-        _ => (dice.below(100_000) as f64 / 1000.0).to_bits(),
-    };
-    Switch {
-        cooldown_rounds,
-        max_step: dice.pick(STEPS),
-        cost_ms,
-    }
-}
-
-/// Prices and holes; at times none, too many, or one that is out of range.
-fn curve(dice: &mut Dice) -> Vec<u64> {
-    let length = match dice.below(32) {
-        0 => dice.between(60, 67),
-        1 => 0,
-        2..=5 => dice.between(0, 64),
-        _ => dice.between(1, 10),
-    };
-    let holes = dice.between(1, 4) as u64;
-    let price = |dice: &mut Dice| match dice.once_in(holes) {
-        true => (dice.below(100_000) as f64 / 10_000.0).to_bits(),
-        false => INFINITY,
-    };
-    let mut curve: Vec<u64> = (0..length).map(|_| price(dice)).collect();
-    if length > 0 && dice.once_in(8) {
-        let at = dice.between(0, length - 1);
-        curve[at] = dice.pick(SPECIALS);
-    }
-    curve
 }

@@ -2,13 +2,9 @@
 //! by the unchanged Rust.
 mod decisions;
 mod drafters;
-mod lent_table;
 mod lookups;
 mod random;
 mod sample;
-mod switching;
-mod table;
-mod table_texts;
 mod tables;
 mod unchanged;
 

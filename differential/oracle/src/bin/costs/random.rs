@@ -1,7 +1,8 @@
 //! Random cases from a seed, without end.
-use crate::{decisions, drafters, lookups, table_texts, tables};
+use crate::{decisions, drafters, lookups, tables};
 use numbers::dice::Dice;
 use numbers::word_case::WordCase;
+use oracle::costs::{lent_tables, table_texts};
 
 const MOST_ROWS: usize = 4096;
 
@@ -43,7 +44,7 @@ fn table(dice: &mut Dice) -> WordCase {
 
 fn lookup(dice: &mut Dice) -> WordCase {
     let most = if dice.once_in(20) { MOST_ROWS } else { 200 };
-    let table = lookups::random_table(most, dice);
+    let table = lent_tables::random_table(most, dice);
     let asked = lookups::random_question(&table, dice);
     tables::lookup(&table, asked)
 }

@@ -1,11 +1,12 @@
 //! The recorded sample: the same cases on every machine, each once.
-use crate::lent_table::LentTable;
-use crate::table_texts::{self, Shape, Text, SHAPES};
 use crate::tables::{self, Asked};
 use crate::{decisions, drafters, lookups};
 use numbers::dice::Dice;
 use numbers::word_case::{dealt, WordCase};
 use numbers::{decimal_texts, spellings, whole_texts};
+use oracle::costs::lent_table::LentTable;
+use oracle::costs::table_texts::{self, Shape, Text, SHAPES};
+use oracle::costs::{lent_tables, lookup_values};
 
 const SEED: u64 = 1;
 
@@ -233,16 +234,16 @@ fn random_table(dice: &mut Dice) -> WordCase {
 
 fn lookup(most: usize, dice: &mut Dice) -> WordCase {
     let rows = dice.between(0, most);
-    let table = lookups::random_table_of(rows, dice);
+    let table = lent_tables::random_table_of(rows, dice);
     tables::lookup(&table, lookups::random_question(&table, dice))
 }
 
 /// Every question of one table, damaged in every way that there is.
 fn lookup_limits(dice: &mut Dice) -> Vec<WordCase> {
-    let rows = lookups::kept_rows(Shape::Grid, 12, dice);
+    let rows = lent_tables::kept_rows(Shape::Grid, 12, dice);
     let whole = LentTable::of(&rows);
     let mut lent = vec![whole.clone(), LentTable::of(&[])];
-    lent.extend(lookups::every_damage(&whole));
+    lent.extend(lent_tables::every_damage(&whole));
     let questions = [
         Asked::Refusal,
         Asked::StepTime { batch: 3, depth: 0 },
@@ -256,13 +257,13 @@ fn lookup_limits(dice: &mut Dice) -> Vec<WordCase> {
     ];
     let cases = |table: &LentTable| questions.map(|asked| tables::lookup(table, asked));
     let mut all: Vec<WordCase> = lent.iter().flat_map(cases).collect();
-    for &kv_delta in lookups::DELTAS {
+    for &kv_delta in lookup_values::DELTAS {
         all.push(tables::lookup(
             &whole,
             Asked::PriceCurve { batch: 3, kv_delta },
         ));
     }
-    for &g in lookups::SPECIAL_DEPTHS {
+    for &g in lookup_values::SPECIAL_DEPTHS {
         all.push(tables::lookup(&whole, Asked::StepTimeFrac { batch: 3, g }));
     }
     all

@@ -1,11 +1,11 @@
 //! Cases of cost tables: a text that is read, and lookups in columns that are lent.
-use crate::lent_table::{self, LentTable};
-use crate::table::{self, Row, Table};
 use numbers::refusal::Reason;
 use numbers::word_case::{bits_of, packed, WordCase};
 use oracle::agreement::assert_agreement;
 use oracle::compute::measured::probe;
 use oracle::compute::MeasuredCostTable;
+use oracle::costs::lent_table::{self, LentTable};
+use oracle::costs::table::{self, Row, Table};
 
 /// What a slot of depths or batches holds before the call.
 const WHOLE_BEFORE: u64 = 0xDEAD_BEEF;

@@ -1,8 +1,8 @@
 //! What the unchanged Rust answers of drafters and of switching.
 use crate::drafters::{Asked, Question};
-use crate::switching::{Record, Switch};
 use numbers::word_case::bits_of;
 use oracle::config::SwitchConstraints;
+use oracle::costs::switching::{Record, Switch};
 use oracle::drafter::Drafter;
 use oracle::lent_model::loaded_reads;
 use oracle::simulation::spec::probe;

@@ -1,9 +1,9 @@
 //! The rules' examples that speak of whole planners, and the plan order.
 use crate::held::Held;
-use crate::plan::{Plan, Planned, ROOM};
-use crate::world::*;
 use oracle::drafter::{Drafter, Rates};
 use oracle::model::Kind;
+use oracle::planners::plan::{Plan, Planned, ROOM};
+use oracle::planners::world::*;
 use std::rc::Rc;
 
 fn bits(values: &[f64]) -> Vec<u64> {

@@ -1,14 +1,14 @@
 //! Planners that hold as much as they may, or nearly.
-use crate::damages::damaged;
-use crate::plan::{Plan, ROOM};
 use crate::planner_case::PlannerCase;
 use crate::scene::Scene;
 use crate::script::{Many, Script};
-use crate::world::{Policy, World, POLICIES};
-use crate::worlds::{self, Shape};
 use numbers::dice::Dice;
 use oracle::clock::{end_in, Clock};
 use oracle::model::Kind;
+use oracle::planners::damages::damaged;
+use oracle::planners::plan::{Plan, ROOM};
+use oracle::planners::world::{Policy, World, POLICIES};
+use oracle::planners::worlds::{self, Shape};
 use std::rc::Rc;
 
 /// Calls on a storage that is full, or nearly: plans, damaged ones among them, and withdrawals.

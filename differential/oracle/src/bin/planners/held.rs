@@ -1,8 +1,8 @@
 //! A planner as the rules have it: the unchanged Rust's, the changes that stand, and how many of them
 //! can be withdrawn. A withdrawal builds the Rust's planner anew from those that are left.
-use crate::judge::{judged, Judged};
-use crate::plan::{Plan, Planned};
-use crate::unchanged::Unchanged;
+use oracle::planners::judge::{judged, Judged};
+use oracle::planners::plan::{Plan, Planned};
+use oracle::planners::unchanged::Unchanged;
 use oracle::simulation::spec::probe::Record;
 use oracle::simulation::spec::DepthSample;
 use std::rc::Rc;

@@ -1,21 +1,15 @@
 //! Writes files of cases of whole planners: their calls, answered by the unchanged Rust's planner, and
 //! damaged plans, refused by the rules' plan order.
-mod damages;
 #[cfg(test)]
 mod examples;
 mod full;
 mod held;
-mod judge;
 mod met;
-mod plan;
 mod planner_case;
 mod random;
 mod sample;
 mod scene;
 mod script;
-mod unchanged;
-mod world;
-mod worlds;
 
 use numbers::commands::{run, Writer};
 use std::process::ExitCode;

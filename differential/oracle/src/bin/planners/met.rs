@@ -1,9 +1,9 @@
 //! What the plans of cases met: each refusal, and each way in which a plan was made.
-use crate::judge::is_constrained;
-use crate::plan::Planned;
-use crate::world::{Policy, World, ROOFLINE};
 use numbers::shapes::{shape_of, Shapes};
 use oracle::drafter::Drafter;
+use oracle::planners::judge::is_constrained;
+use oracle::planners::plan::Planned;
+use oracle::planners::world::{Policy, World, ROOFLINE};
 use oracle::plans::prices::{is_deep, INFINITY};
 use std::fmt::{self, Display};
 

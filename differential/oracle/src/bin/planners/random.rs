@@ -1,13 +1,13 @@
 //! Random planners from a seed, without end.
-use crate::damages::{damaged, damaged_by, SORTS};
 use crate::full::{full_second, full_seconds, full_workers};
 use crate::planner_case::PlannerCase;
 use crate::scene::Scene;
 use crate::script::Script;
-use crate::world::{Policy, POLICIES};
-use crate::worlds::{self, Shape};
 use numbers::dice::Dice;
 use numbers::kept::Kept;
+use oracle::planners::damages::{damaged, damaged_by, SORTS};
+use oracle::planners::world::{Policy, POLICIES};
+use oracle::planners::worlds::{self, Shape};
 use std::rc::Rc;
 
 /// The sentence that says the space.

@@ -4,9 +4,9 @@ use crate::planner_case::PlannerCase;
 use crate::random::{damages, each_damage, gating, switching, under};
 use crate::scene::Scene;
 use crate::script::Script;
-use crate::world::POLICIES;
-use crate::worlds::Shape;
 use numbers::dice::Dice;
+use oracle::planners::world::POLICIES;
+use oracle::planners::worlds::Shape;
 
 const SEED: u64 = 3;
 

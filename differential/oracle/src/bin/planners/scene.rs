@@ -1,10 +1,10 @@
 //! A planner's workers, its clock, and the calls that are made of it.
-use crate::plan::Plan;
 use crate::script::{Script, MOST_SERIES};
-use crate::world::{Policy, World, POLICIES};
-use crate::worlds::{self, Shape};
 use numbers::dice::Dice;
 use oracle::clock::Clock;
+use oracle::planners::plan::Plan;
+use oracle::planners::world::{Policy, World, POLICIES};
+use oracle::planners::worlds::{self, Shape};
 use std::rc::Rc;
 
 /// The workers and the clock of a planner, and what it is set to.

@@ -2,12 +2,12 @@
 //! answers and leaves.
 use crate::held::Held;
 use crate::met::Met;
-use crate::plan::{Plan, Planned, MOST_SLOTS, WHOLE};
 use crate::planner_case::PlannerCase;
-use crate::world::World;
 use numbers::kept::Kept;
 use numbers::word_case::WordCase;
 use oracle::clock::end_in;
+use oracle::planners::plan::{Plan, Planned, MOST_SLOTS, WHOLE};
+use oracle::planners::world::World;
 use oracle::simulation::spec::SpecPlanner;
 use std::rc::Rc;
 

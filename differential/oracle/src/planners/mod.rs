@@ -1,0 +1,8 @@
+//! Whole plans: what they are asked with and lent, whole and damaged, the first refusal of one, and the
+//! unchanged Rust's planner asked with it.
+pub mod damages;
+pub mod judge;
+pub mod plan;
+pub mod unchanged;
+pub mod world;
+pub mod worlds;
