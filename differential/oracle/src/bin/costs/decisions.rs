@@ -30,7 +30,16 @@ pub fn decision(record: Record, curve: &[u64], target: u32, switch: Switch) -> [
     let mut input = [record.words(), vec![target.into()], switch.words()].concat();
     input.extend(listed(curve.iter().copied()));
     let answer = decided_words(ours, record);
-    [b'c', b'l'].map(|letter| WordCase::new(letter, input.clone(), answer.clone()))
+    [b'c', b'l'].map(|letter| {
+        WordCase::new(letter, input.clone(), answer.clone()).with_traits(&[
+            ("stalled", record.stall > 0),
+            ("with holes", curve.contains(&INFINITY)),
+            (
+                "changed",
+                ours.is_ok_and(|after| after.width != record.width),
+            ),
+        ])
+    })
 }
 
 /// The refusal, the width, and the record as it is kept.
@@ -70,7 +79,10 @@ pub fn collected(record: Record) -> [WordCase; 2] {
         assert_eq!((record.stall, after), unchanged::collected(record));
         [vec![0, record.stall], after.words()].concat()
     };
-    [b'e', b'n'].map(|letter| WordCase::new(letter, record.words(), answer.clone()))
+    [b'e', b'n'].map(|letter| {
+        WordCase::new(letter, record.words(), answer.clone())
+            .with_traits(&[("stalled", record.stall > 0)])
+    })
 }
 
 /// What is wrong with a record.

@@ -5,6 +5,7 @@ use numbers::word_case::{listed, WordCase};
 use oracle::drafter::{Drafter, Lent, Rates, MOST_SEQUENCES};
 use oracle::drafter_values::{drafter, float_up_to, rate, with_constant_loaded};
 use oracle::drafter_values::{COUNTS, ONE, SPECIALS};
+use oracle::plans::prices::is_deep;
 
 /// What is asked of a drafter.
 #[derive(Clone, Debug)]
@@ -85,7 +86,11 @@ impl Question {
             listed(self.loaded.iter().copied()),
         ];
         let answer = answer.map_or_else(|number| [number.into(), 0], |bits| [0, bits]);
-        WordCase::new(letter, input.concat(), answer.to_vec())
+        let deepest = widths.iter().fold(sizes[0], |most, &width| most.max(width));
+        WordCase::new(letter, input.concat(), answer.to_vec()).with_traits(&[
+            ("deep", is_deep(deepest)),
+            ("uneven", widths.iter().any(|&width| width != widths[0])),
+        ])
     }
 }
 

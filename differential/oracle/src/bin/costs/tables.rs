@@ -6,6 +6,7 @@ use oracle::compute::measured::probe;
 use oracle::compute::MeasuredCostTable;
 use oracle::costs::lent_table::{self, LentTable};
 use oracle::costs::table::{self, Row, Table};
+use oracle::plans::prices::is_deep;
 
 /// What a slot of depths or batches holds before the call.
 const WHOLE_BEFORE: u64 = 0xDEAD_BEEF;
@@ -190,5 +191,9 @@ pub fn lookup(table: &LentTable, asked: Asked) -> WordCase {
     });
     let refused = |number: u8| [vec![number.into()], vec![0; asked.width()]].concat();
     let input = [asked.words(), table.words()].concat();
-    WordCase::new(asked.letter(), input, answer.unwrap_or_else(refused))
+    let gap = |pair: &[u32]| pair[1] > pair[0].saturating_add(1);
+    WordCase::new(asked.letter(), input, answer.unwrap_or_else(refused)).with_traits(&[
+        ("deep", table.depths.iter().any(|&depth| is_deep(depth))),
+        ("with holes", table.depths.windows(2).any(gap)),
+    ])
 }
