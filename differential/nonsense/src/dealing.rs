@@ -34,7 +34,7 @@ impl Dealt {
         Dealt {
             function,
             tally: Tally::default(),
-            repeat: ending::kept(repeat),
+            repeat: repeat.leak(),
             seed: Dice::new(seed).bits() ^ named,
         }
     }

@@ -1,8 +1,7 @@
-//! Says which call was under way where the program is ended from outside: by a touch of a guard's page,
-//! by another fault of the machine, or by the clock where a call does not return.
+//! Says which call was under way where the program ends early: by a touch of a guard's page, by another
+//! fault of the machine, by the clock where a call does not return, or by a reading that stops.
 use std::ffi::{c_int, c_uint, c_void};
 use std::sync::atomic::{AtomicUsize, Ordering::Relaxed};
-use std::sync::Mutex;
 
 const SIGILL: c_int = 4;
 const SIGABRT: c_int = 6;
@@ -36,7 +35,6 @@ extern "C" {
 /// The command up to the place, by its address and its length, and the place of the call under way.
 static TEXT: [AtomicUsize; 2] = [AtomicUsize::new(0), AtomicUsize::new(0)];
 static PLACE: AtomicUsize = AtomicUsize::new(0);
-static KEPT: Mutex<Vec<&'static str>> = Mutex::new(Vec::new());
 
 pub fn install() {
     let action = Action {
@@ -50,6 +48,10 @@ pub fn install() {
         let set = unsafe { sigaction(number, &action, std::ptr::null_mut()) };
         assert_eq!(set, 0, "signal {number} is not handled");
     }
+    std::panic::set_hook(Box::new(|panic| {
+        println!("{panic}");
+        end(b"differing: a reading stopped: ")
+    }));
 }
 
 /// A block of calls starts: the command that repeats one of them, up to its place.
@@ -58,16 +60,6 @@ pub fn block(repeat: &'static str) {
     TEXT[1].store(repeat.len(), Relaxed);
     // SAFETY: it sets the clock of this process.
     unsafe { alarm(LONGEST) };
-}
-
-/// A text that lives as long as the program; one for each that differs.
-pub fn kept(text: String) -> &'static str {
-    let mut kept = KEPT.lock().expect("no thread but one");
-    if let Some(&same) = kept.iter().find(|&&same| same == text) {
-        return same;
-    }
-    kept.push(text.leak());
-    kept[kept.len() - 1]
 }
 
 pub fn place(place: u64) {
@@ -80,12 +72,17 @@ fn print(bytes: &[u8]) {
 }
 
 extern "C" fn told(number: c_int) {
-    let [at, len] = [0, 1].map(|part| TEXT[part].load(Relaxed));
-    print(match number {
+    end(match number {
         SIGALRM => b"differing: a call did not return: ",
         SIGSEGV | SIGBUS => b"differing: a call touched what it was not lent: ",
         _ => b"differing: a call ended the program: ",
-    });
+    })
+}
+
+/// Ends the program with what happened and the command that repeats the call under way.
+fn end(what: &[u8]) -> ! {
+    print(what);
+    let [at, len] = [0, 1].map(|part| TEXT[part].load(Relaxed));
     if at > 0 {
         // SAFETY: the text lives as long as the program.
         print(unsafe { std::slice::from_raw_parts(at as *const u8, len) });
