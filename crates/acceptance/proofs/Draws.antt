@@ -1,23 +1,22 @@
 -- Laws of what draws accept: from a draw on, the bounds of the answer, and that draws which are not consumed are not looked at. Assumes nothing.
 use mathlib.Core.Path.{_≡_, refl, sym, ap, _∙_, subst}
 use mathlib.Core.Logic.{_⊎_, inl, inr}
-use mathlib.Core.Bool.{Bool, true, false, _&&_}
+use mathlib.Core.Bool.{Bool, true, false}
 use mathlib.Core.List.{List, [], _∷_, _++_}
-use Prim.Native.Nat.{ℕ, zero, suc, _+_, _-_, _*_, _≤_, _<_, zero-le}
+use Prim.Native.Nat.{ℕ, zero, suc, _+_, _-_, _≤_, _<_, zero-le}
 use native.Mathlib.Nat.{not-suc-le-zero}
 use native.Mathlib.Numerals.{add-one}
 use native.Mathlib.Omega.{arith}
 use lib.ListN.{length, getD, take, drop, length-drop, drop-of-length-le}
-use lib.IntN.{pos}
-use lib.Ieee.{Float, nan, inf, fin, up, down, lt, ofBits}
-use borrow.Author.Tests.{le-ltb}
+use lib.Ieee.{Float, nan, lt}
+use Rattle.laws.proofs.Lists.{next}
+use Rattle.laws.proofs.Both.{both}
 use Rattle.float.specs.Floats.{f0, f1, isClear}
-use Rattle.float.proofs.Classes.{clash}
+use Rattle.float.proofs.Classes.{not-negative}
 use Rattle.acceptance.specs.declared.AcceptanceModel.{AcceptanceModel}
 use Rattle.acceptance.specs.declared.Sample.{Sample}
 use Rattle.acceptance.specs.declared.Sample.the-variants.{Accepted, Refused}
 use Rattle.acceptance.specs.Acceptance.{aD, isDraw, acceptanceRefusal, andOne, consume, sampled, sampleFrom, sampleUnless, sampleAccepted, sampleRefusal, commitsOf, usedOf}
-use Rattle.acceptance.proofs.Judged.{next}
 
 -- ---- a draw
 pub clear-draw : (x : Float) → isClear x ≡ true → lt x f1 ≡ isDraw x
@@ -29,21 +28,9 @@ unfolding isDraw
 not-clear-out x e = rw e
 
 -- at least 0 and below 1
-both : (a b : Bool) → (a && b) ≡ true → (a ≡ true) × (b ≡ true)
-both true b h = (refl, h)
-both false b h = clash h
-
-clear-low : (x : Float) → isClear x ≡ true → lt x f0 ≡ false
-unfolding isClear lt ofBits
-clear-low nan h = refl
-clear-low (inf true) h = clash h
-clear-low (inf false) h = refl
-clear-low (fin true m e) h = clash h
-clear-low (fin false m e) h = le-ltb (m * up e * down (pos 0)) (0 * up (pos 0) * down e) (omega arith)
-
 pub draw-low : (x : Float) → isDraw x ≡ true → lt x f0 ≡ false
 unfolding isDraw
-draw-low x h = clear-low x (both (isClear x) (lt x f1) h .0)
+draw-low x h = not-negative x (both (isClear x) (lt x f1) h .0)
 
 pub draw-high : (x : Float) → isDraw x ≡ true → lt x f1 ≡ true
 unfolding isDraw
@@ -99,7 +86,7 @@ module _ (model : AcceptanceModel) (positions : List Float) (gamma : ℕ) (draws
   consumed : (i n : ℕ) (b l : Bool) → n < gamma → i < length draws → isDraw (getD draws i nan) ≡ b → lt (getD draws i nan) (aD model positions n) ≡ l
       → from model positions gamma draws i n ≡ after n (consume b l (sampled model positions (suc n) (gamma - (n + 1)) (drop (i + 1) draws)))
   unfolding sampled
-  consumed i n b l h k e f = rw (one-left n h, next draws i k, e, f)
+  consumed i n b l h k e f = rw (one-left n h, next draws i nan k, e, f)
 
   pub sample-no-draw : (i n : ℕ) → n < gamma → i < length draws → isDraw (getD draws i nan) ≡ false → from model positions gamma draws i n ≡ Refused 14
   sample-no-draw i n h k e = consumed i n false (lt (getD draws i nan) (aD model positions n)) h k e refl

@@ -1,13 +1,12 @@
--- Laws of the expected number of accepted drafts: one draft more, no drafts, and the trace model. Assumes nothing.
+-- Laws of the expected number of accepted drafts: one draft more, and no drafts. Assumes nothing.
 use mathlib.Core.Path.{_≡_, refl, sym, ap, _∙_}
 use mathlib.Core.List.{List}
 use Prim.Native.Nat.{ℕ, zero, suc, _+_, _≤_, _<_, zero-le}
 use native.Mathlib.Nat.{not-suc-le-zero}
 use native.Mathlib.Numerals.{add-one}
-use lib.Ieee.{Float, ofBits, add, mul, round}
+use lib.Ieee.{Float}
 use Rattle.float.specs.Floats.{plus, times, f0, f1}
 use Rattle.acceptance.specs.declared.AcceptanceModel.{AcceptanceModel}
-use Rattle.acceptance.specs.declared.AcceptanceModel.the-variants.{Trace}
 use Rattle.acceptance.specs.declared.Expected.the-variants.{Value, Refused}
 use Rattle.acceptance.specs.Acceptance.{aD, modelRefusal, acceptanceRefusal, productTo, expectedTo, valueUnless, expectedAccepted, expectedRefusal}
 use Rattle.acceptance.proofs.Judged.{none-refused}
@@ -54,26 +53,3 @@ module _ (model : AcceptanceModel) (positions : List Float) where
   pub expected-none : modelRefusal model positions ≡ 0 → expectedAccepted model positions 0 ≡ Value f0
   unfolding expectedTo
   expected-none e = sym (valued 0 0 (none-refused model positions 0 0 (sym e) zero-le zero-le) f0 refl zero-le)
-
--- ---- under the trace model every value is 0.0, and so is every sum
-one-times-zero : times f1 f0 ≡ f0
-unfolding mul ofBits round
-one-times-zero = refl
-
-zero-times-zero : times f0 f0 ≡ f0
-unfolding mul ofBits round
-zero-times-zero = refl
-
-zero-plus-zero : plus f0 f0 ≡ f0
-unfolding add ofBits round
-zero-plus-zero = refl
-
-product-trace : (positions : List Float) (d : ℕ) → productTo Trace positions (suc d) ≡ f0
-unfolding productTo
-product-trace positions zero = one-times-zero
-product-trace positions (suc d) = ap (λ (x : Float). times x f0) (product-trace positions d) ∙ zero-times-zero
-
-pub expected-trace : (positions : List Float) (gamma : ℕ) → expectedTo Trace positions gamma ≡ f0
-unfolding expectedTo
-expected-trace positions zero = refl
-expected-trace positions (suc d) = rw (expected-trace positions d, product-trace positions d) zero-plus-zero

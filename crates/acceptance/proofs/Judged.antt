@@ -4,17 +4,15 @@ use mathlib.Core.Bool.{Bool, true, false, _&&_, cond}
 use mathlib.Core.List.{List, [], _∷_}
 use Prim.Native.Nat.{ℕ, zero, suc, _+_, _≤_, _<_}
 use native.Mathlib.Nat.{not-suc-le-zero, le-of-suc-le-suc}
-use native.Mathlib.Numerals.{add-one}
 use native.Mathlib.Omega.{arith}
 use borrow.Author.Tests.{le-leb, lt-leb, lt-ltb, le-ltb, ltb-true}
 use lib.Dec.{leb, ltb}
 use lib.ListN.{length, getD, drop, drop-of-length-le}
-use lib.Seq.{drop-cons}
-use lib.Ieee.{Float, nan, lt, isNan, ofBits}
+use lib.Ieee.{Float, nan, lt, ofBits}
+use Rattle.laws.proofs.Lists.{next}
 use Rattle.float.specs.Floats.{f0, f1, isClear}
 use Rattle.float.specs.Range.{inRange}
 use Rattle.float.proofs.Classes.{clash}
-use Rattle.float.proofs.Ranges.{range-no-nan}
 use Rattle.acceptance.specs.declared.AcceptanceModel.{AcceptanceModel}
 use Rattle.acceptance.specs.declared.AcceptanceModel.the-variants.{Constant, PerPosition, Trace}
 use Rattle.acceptance.specs.Acceptance.{mostPositions, mostGamma, aD, isChance, allChances, carriesChance, modelRefusal, gammaRefusal, acceptanceRefusal}
@@ -31,11 +29,8 @@ pub past-list : (positions : List Float) (d : ℕ) → length positions ≤ d �
 past-list positions d h = rw (le-ltb d (length positions) h)
 
 -- ---- the positions from a place on
-pub next : (t : List Float) (i : ℕ) → i < length t → drop i t ≡ getD t i nan ∷ drop (i + 1) t
-next t i h = drop-cons t i nan h ∙ ap (λ (n : ℕ). getD t i nan ∷ drop n t) (sym (add-one i))
-
 pub chances-next : (z : Bool) (t : List Float) (i : ℕ) → i < length t → isChance (getD t i nan) ≡ z → allChances (drop i t) ≡ (z && allChances (drop (i + 1) t))
-chances-next z t i h e = ap allChances (next t i h) ∙ ap (λ (b : Bool). b && allChances (drop (i + 1) t)) e
+chances-next z t i h e = ap allChances (next t i nan h) ∙ ap (λ (b : Bool). b && allChances (drop (i + 1) t)) e
 
 pub chances-end : (t : List Float) (i : ℕ) → length t ≤ i → allChances (drop i t) ≡ true
 chances-end t i h = ap allChances (drop-of-length-le t h)
@@ -107,6 +102,3 @@ value-in-range PerPosition positions e d = go (ltb d (length positions)) refl
     go true h = chance-at positions d (both (leb (length positions) mostPositions) (allChances positions) true e .0) (ltb-true d (length positions) h)
     go false h = zero-chance
 value-in-range Trace positions e d = zero-chance
-
-pub value-no-nan : (model : AcceptanceModel) (positions : List Float) → modelRefusal model positions ≡ 0 → (d : ℕ) → isNan (aD model positions d) ≡ false
-value-no-nan model positions e d = range-no-nan f0 f1 (aD model positions d) (value-in-range model positions e d)

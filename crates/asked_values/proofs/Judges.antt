@@ -8,6 +8,7 @@ use borrow.Author.Tests.{le-leb, lt-leb, leb-true, le-ltb, eq-eqb, ne-eqb}
 use lib.Dec.{leb, eqb}
 use lib.ListN.{length, take}
 use lib.Ieee.{Float, binary64, ofBits}
+use Rattle.laws.proofs.Both.{both}
 use Rattle.float.specs.Floats.{f0, isFinite, isClear}
 use Rattle.float.specs.Range.{inRange}
 use Rattle.speculative.specs.Drafter.{allLoaded, million}
@@ -22,7 +23,6 @@ use Rattle.ledger_rows.specs.declared.layout.Past.{Past}
 use Rattle.goodput.specs.declared.curve.Source.the-variants.{Table}
 use Rattle.asked_values.specs.Columns.{columnsFit}
 use Rattle.asked_values.specs.Values.{heldOf, heldValued}
-use Rattle.asked_values.proofs.Cases.{both}
 
 -- ---- loaded experts
 all-loaded : (l : List Float) → allOf (inRange f0 million) l ≡ allLoaded l

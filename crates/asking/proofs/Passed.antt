@@ -2,14 +2,15 @@
 use mathlib.Core.Path.{_≡_, refl, sym, ap, _∙_}
 use mathlib.Core.Bool.{Bool, true, false, _&&_, _||_, cond}
 use mathlib.Core.List.{List}
-use Prim.Native.Nat.{ℕ, zero, suc, _+_, _*_, _≤_, _<_}
+use Prim.Native.Nat.{ℕ, _+_, _*_, _≤_, _<_}
 use native.Mathlib.Omega.{arith}
 use borrow.Author.Tests.{leb-true, lt-ltb, eqb-true, eq-eqb}
 use lib.Dec.{leb, eqb}
 use lib.ListN.{length, take}
 use lib.Ieee.{Float}
+use Rattle.refusals.proofs.First.{first-zero}
+use Rattle.laws.proofs.Both.{both}
 use Rattle.float.proofs.Classes.{clash}
-use Rattle.refusals.specs.Refusals.{firstOf}
 use Rattle.acceptance.specs.declared.AcceptanceModel.{AcceptanceModel}
 use Rattle.acceptance.specs.declared.AcceptanceModel.the-variants.{Constant, PerPosition, Trace}
 use Rattle.speculative.specs.Drafter.{ratesRefusal, loadedRefusal}
@@ -36,13 +37,8 @@ use Rattle.asking.specs.Values.{pricesValued, loadedValued, curveValued,
 use Rattle.asking.specs.Asked.{Lent, tableOf, lengthsOf, costsValued, valuesRefusal, askedRefusal}
 use Rattle.asked_values.specs.Columns.{columnsFit}
 use Rattle.asking.proofs.Tests.{used}
-use Rattle.asked_values.proofs.Cases.{both}
 
 -- ---- what a refusal of 0 says
-first-zero : (a b : ℕ) → firstOf a b ≡ 0 → (a ≡ 0) × (b ≡ 0)
-first-zero zero b h = (refl, h)
-first-zero (suc a) b h = absurd (let w : ⊥ = omega arith in w)
-
 passes : (t : Bool) (n : ℕ) → 0 < n → cond t 0 n ≡ 0 → t ≡ true
 passes true n h e = refl
 passes false n h e = absurd (let w : ⊥ = omega arith in w)
@@ -61,7 +57,7 @@ capped-le (Constant alpha) gamma depth = omega arith
 capped-le PerPosition gamma depth = omega arith
 capped-le Trace gamma depth = omega arith
 
-under-le : (p : Policy) (m : AcceptanceModel) (gamma depth : ℕ) → gammaUnder p m gamma depth ≤ gamma
+pub under-le : (p : Policy) (m : AcceptanceModel) (gamma depth : ℕ) → gammaUnder p m gamma depth ≤ gamma
 under-le Fixed m gamma depth = omega arith
 under-le GoodputBudget m gamma depth = capped-le m gamma depth
 under-le GatedBudget m gamma depth = capped-le m gamma depth

@@ -1,20 +1,20 @@
 -- A bank that was read has 1 to 65,536 rounds, a depth of 1 to 64, and a curve that a plan takes: each entry is in 0..64, entry 0 is 0.0, the curve never falls, and a draft of none has 0.0 accepted.
 -- Assumes nothing.
 use mathlib.Core.Path.{_≡_, refl, sym, ap, _∙_, subst}
-use mathlib.Core.Bool.{Bool, true, false, _&&_, _||_, cond}
+use mathlib.Core.Bool.{Bool, true, false, _&&_, _||_}
 use mathlib.Core.List.{List, [], _∷_}
-use Prim.Native.Nat.{ℕ, zero, suc, _+_, _*_, _/_, _-_, _^_, _≤_, _<_, min}
+use Prim.Native.Nat.{ℕ, _+_, _*_, _-_, _≤_, _<_, min}
 use native.Mathlib.Nat.{zero-lt-suc, mul-one, zero-mul, le-of-lt, mul-le-mul-left, mul-le-mul-right, le-trans, le-of-eq, mul-comm}
 use native.Mathlib.Omega.{arith}
 use borrow.Author.Tests.{ltb-true, le-ltb, eqb-true}
 use lib.Dec.{T, ltb, eqb}
 use lib.IntN.{pos}
 use lib.ListN.{length, getD, drop}
-use lib.Ieee.{Float, nan, inf, fin, Format, prec, emax, low, up, down, size, odd, units, round, binary64, ofBits, lt, eq, le}
-use lib.Ieee.Fits.{round-is}
-use lib.Ieee.Nearest.{closest}
+use lib.Ieee.{Float, nan, inf, fin, up, down, round, binary64, ofBits, lt, eq, le}
 use lib.Ieee.Order.{round-mono}
 use lib.Ieee.Scale.{round-same}
+use Rattle.float.proofs.Classes.{not-negative}
+use Rattle.float.proofs.Rounded.{round-clear}
 use Rattle.float.specs.Floats.{f0, isClear}
 use Rattle.float.specs.Range.{inRange}
 use Rattle.float.proofs.Ranges.{in-range}
@@ -31,37 +31,9 @@ use Rattle.bank_curve.proofs.Curve.{sum-small}
 use Rattle.bank.proofs.Lookups.{sizes-fit, in-the-range}
 use Rattle.bank.proofs.Places.{curve-placed}
 
--- ---- a rounded quotient without a sign is clear
+-- ---- a rounded quotient without a sign is between 0 and 64 where it is at most 64
 
-units-clear : (f : Format) (q k : ℕ) → isClear (units f false q k) ≡ true
-unfolding units odd isClear
-units-clear f q k = go q (ltb (q * 2 ^ k) (2 ^ (low f + suc (emax f))))
-  where
-    go : (n : ℕ) (b : Bool) → isClear (cond b (odd (suc (prec f)) false n k (low f)) (inf false)) ≡ true
-    go zero true = refl
-    go (suc n) true = refl
-    go n false = refl
-
-round-clear : (f : Format) (a b : ℕ) → isClear (round f false a b) ≡ true
-round-clear f a b =
-    let n = a * 2 ^ low f in
-    let k = size (n / b) - prec f in
-    ap isClear (round-is f false a b) ∙ units-clear f (closest n (b * 2 ^ k)) k
-
--- ---- and between 0 and 64 where it is at most 64
-
-none-below : (x d : ℕ) → 0 * d ≤ x
-none-below x d = omega arith
-
-not-negative : (x : Float) → isClear x ≡ true → lt x f0 ≡ false
-unfolding lt isClear ofBits
-not-negative nan c = refl
-not-negative (inf true) c = sym c
-not-negative (inf false) c = refl
-not-negative (fin true m e) c = let z : _≡_ {A = ℕ} 0 1 = cc in absurd (let w : ⊥ = omega arith in w)
-not-negative (fin false m e) c = le-ltb (m * up e * 1) (0 * 1 * down e) (none-below (m * up e * 1) (down e))
-
-le-either : (a b : ℕ) → T (ltb a b || (eqb a b && true)) → a ≤ b
+pub le-either : (a b : ℕ) → T (ltb a b || (eqb a b && true)) → a ≤ b
 le-either a b t = go (ltb a b) (eqb a b) (ltb-true a b) (eqb-true a b) t
   where
     go : (x y : Bool) → (x ≡ true → a < b) → (y ≡ true → a ≡ b) → T (x || (y && true)) → a ≤ b

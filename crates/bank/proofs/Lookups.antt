@@ -1,23 +1,20 @@
 -- What a lookup in a bank's curve answers, by the tests that the code makes: each law is one way out. Assumes nothing.
-use mathlib.Core.Path.{_≡_, refl, sym, ap, _∙_}
-use mathlib.Core.Bool.{Bool, true, false, _&&_, cond}
+use mathlib.Core.Path.{_≡_, sym, ap, _∙_}
+use mathlib.Core.Bool.{true, false, _&&_, cond}
 use mathlib.Core.List.{List}
 use Prim.Native.Nat.{ℕ, min, _≤_, _<_}
-use native.Mathlib.Omega.{arith}
 use borrow.Author.Tests.{eq-eqb, ne-eqb, lt-ltb, le-ltb, le-leb, lt-leb}
 use lib.Dec.{leb, ltb, eqb}
 use lib.ListN.{length, getD}
 use lib.Ieee.{Float, nan}
+use Rattle.decimals.proofs.Outcomes.{above-zero}
+use Rattle.laws.proofs.Both.{and-false}
 use Rattle.float.specs.Floats.{f0}
 use Rattle.float.specs.Range.{inRange}
 use Rattle.bank.specs.declared.Expected.the-variants.{Value, Refused}
 use Rattle.bank.specs.Acceptance.{mostAccepted, sizesRefusal, entryOf, curveEntry, expectedAccepted}
 
 -- ---- the sizes
-
-and-false : (a : Bool) → (a && false) ≡ false
-and-false true = refl
-and-false false = refl
 
 pub no-depth : (depth gamma : ℕ) → depth ≡ 0 → 11 ≡ sizesRefusal depth gamma
 unfolding sizesRefusal
@@ -30,9 +27,6 @@ deep depth gamma h = rw (lt-leb depth 64 h, and-false (ltb 0 depth))
 pub far : (depth gamma : ℕ) → 64 < gamma → 11 ≡ sizesRefusal depth gamma
 unfolding sizesRefusal
 far depth gamma h = rw (lt-leb gamma 64 h, and-false (ltb 0 depth && leb depth 64))
-
-above-zero : (n : ℕ) → (n ≡ 0 → ⊥) → 0 < n
-above-zero n h = omega arith
 
 pub sizes-fit : (depth gamma : ℕ) → (depth ≡ 0 → ⊥) → depth ≤ 64 → gamma ≤ 64 → 0 ≡ sizesRefusal depth gamma
 unfolding sizesRefusal

@@ -10,12 +10,12 @@ use native.Mathlib.Omega.{arith}
 use lib.IntN.{pos}
 use lib.Ieee.{binary64, round, div, ofInt}
 use lib.ListN.{length, getD, drop}
-use Rattle.blocks.proofs.Finding.{next}
+use Rattle.laws.proofs.Lists.{next}
 use Rattle.decimals.proofs.Rounding.{whole-held, quotient-rounds}
 use Rattle.bank_curve.specs.Curve.{sumUpTo, curveFrom}
 
 pub sum-next : (g : ℕ) (commits : List ℕ) (i : ℕ) → i < length commits → sumUpTo g (drop i commits) ≡ min (getD commits i 0) g + sumUpTo g (drop (i + 1) commits)
-sum-next g commits i h = ap (sumUpTo g) (next commits i h)
+sum-next g commits i h = ap (sumUpTo g) (next commits i 0 h)
 
 pub sum-small : (g : ℕ) (commits : List ℕ) → sumUpTo g commits ≤ length commits * g
 sum-small g [] = zero-le

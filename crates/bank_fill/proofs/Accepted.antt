@@ -10,7 +10,7 @@ use lib.Dec.{leb, eqb}
 use lib.ListN.{length, getD, take, drop, length-drop, length-append}
 use lib.Seq.{sets}
 use Rattle.text.specs.Lines.{lines, firstLine, afterLine}
-use Rattle.text.proofs.Walk.{line-first}
+use Rattle.text.proofs.Walk.{line-first, some-text}
 use Rattle.text.specs.Fields.{fields}
 use Rattle.numeral.specs.Spelling.{wholeOf}
 use Rattle.bank_judge.specs.declared.Answer.{Answer}
@@ -153,10 +153,6 @@ accepted text commits signals curve depth rounds e = go (allAscii text) e
     go false e = absurd (refused-no 1 0 depth rounds e)
 
 -- ---- its buffers
-
-some-text : (s : List ℕ) → 0 < length (lines s) → 0 < length s
-some-text [] h = absurd (not-suc-le-zero h)
-some-text (b ∷ s) h = suc-le-suc zero-le
 
 -- the header and the rows, where stop and next are what `first_line` gives
 module _ (s : List ℕ) (stop next : ℕ) (e : stop ≡ length (firstLine s)) (f : next ≡ length s - length (afterLine s)) (some : 0 < length (lines s)) where

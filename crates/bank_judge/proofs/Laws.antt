@@ -9,10 +9,10 @@ use native.Mathlib.Omega.{arith}
 use borrow.Author.Tests.{le-leb, lt-leb, lt-ltb, le-ltb, eq-eqb, ne-eqb, eqb-true, eqb-false, leb-true, ltb-true}
 use lib.Dec.{leb, ltb, eqb}
 use lib.ListN.{length, getD, take, drop}
+use Rattle.laws.proofs.Both.{and-false}
 use Rattle.blocks.specs.Blocks.{find, allAscii}
 use Rattle.text.specs.Lines.{startsWith, lines}
 use Rattle.text.specs.Fields.{fields, sameText}
-use Rattle.blocks.proofs.Finding.{next}
 use Rattle.text.proofs.Walk.{drop-more}
 use Rattle.first_field.specs.Front.{fieldLength}
 use Rattle.numeral.specs.Spelling.{wholeOf}
@@ -85,10 +85,6 @@ module _ (width skip : ℕ) (row : List (List ℕ)) where
   row-signals m l e z = rw (eq-eqb (length row) width l) (ap (λ (x : ℕ). orElse x (signalsRefusal (drop skip row))) (sym e ∙ z))
 
 -- ---- the header
-
-and-false : (a : Bool) → (a && false) ≡ false
-and-false true = refl
-and-false false = refl
 
 module _ (names : List (List ℕ)) (room : ℕ) where
   pub head-name : sameText (getD names 0 []) commitsName ≡ false → headerRefusal names room ≡ 3

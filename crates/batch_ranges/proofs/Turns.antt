@@ -11,7 +11,7 @@ use lib.Ieee.{Float, nan}
 use Rattle.batch_ranges.specs.declared.BatchRange.{BatchRange}
 use Rattle.cost_rows.specs.Table.{zip, ofDepth}
 use Rattle.batch_ranges.specs.Range.{measures, widened, rangeFrom}
-use Rattle.nearest_row.proofs.Rows.{zip-next, zip-length}
+use Rattle.cost_rows.proofs.Rows.{zip-next, zip-length}
 
 module _ (n : ℕ) (d b : List ℕ) (s : List Float) (p : n ≤ length d) (q : n ≤ length b) (r : n ≤ length s) where
   module _ (i : ℕ) (h : i < n) where

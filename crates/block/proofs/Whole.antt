@@ -1,13 +1,13 @@
 -- From the parts of a gate to the whole: at depth 0 there is nothing to weigh. Assumes nothing.
 use Prim.Native.Nat.{ℕ, _≤_}
 use mathlib.Core.Path.{_≡_, sym, ap, _∙_}
-use mathlib.Core.Bool.{Bool, true, false, cond}
 use mathlib.Core.List.{List}
 use lib.Dec.{eqb}
 use native.Mathlib.Omega.{arith}
 use borrow.Author.Tests.{eq-eqb, ne-eqb}
 use lib.ListN.{length, getD, replicate}
 use lib.Ieee.{Float, nan}
+use Rattle.laws.proofs.Choices.{first, second}
 use Rattle.float.specs.Floats.{whole}
 use Rattle.speculative.specs.Drafter.{drafterSeconds, loadedAt}
 use Rattle.speculative.specs.declared.drafter.Rates.{Rates}
@@ -15,12 +15,6 @@ use Rattle.speculative.specs.declared.drafter.DrafterCost.{DrafterCost}
 use Rattle.verdict.specs.Decision.{Sums}
 use Rattle.slots.specs.Gate.{Chosen}
 use Rattle.block.specs.Block.{blockFrom, blockWidths, blockGate}
-
-first : (b : Bool) (x y : Chosen) → b ≡ true → x ≡ cond b x y
-first b x y e = rw e
-
-second : (b : Bool) (x y : Chosen) → b ≡ false → y ≡ cond b x y
-second b x y e = rw e
 
 -- ---- the block gate
 pub block-started :

@@ -8,13 +8,15 @@ use native.Mathlib.Omega.{arith}
 use borrow.Author.Tests.{lt-leb, le-leb, ltb-true, ltb-false, eq-eqb, ne-eqb}
 use lib.Dec.{eqb, ltb, leb, eqb·suc-zero}
 use lib.ListN.{length, getD, take, drop, drop-of-length-le}
+use Rattle.laws.proofs.Lists.{next, part}
+use Rattle.laws.proofs.Both.{grouped}
 use Rattle.blocks.specs.Blocks.{find, tally, isByte, isHigh, allAscii}
 use lib.Seq.{length-take-le}
-use Rattle.blocks.proofs.Finding.{next, part, part-length}
+use Rattle.blocks.proofs.Finding.{part-length}
 
 module _ (p : ℕ → Bool) where
   pub tally-next : (t : List ℕ) (i : ℕ) (z : Bool) → i < length t → p (getD t i 0) ≡ z → tally p (drop i t) ≡ cond z (suc (tally p (drop (i + 1) t))) (tally p (drop (i + 1) t))
-  tally-next t i z h e = ap (tally p) (next t i h) ∙ ap (λ (x : Bool). cond x (suc (tally p (drop (i + 1) t))) (tally p (drop (i + 1) t))) e
+  tally-next t i z h e = ap (tally p) (next t i 0 h) ∙ ap (λ (x : Bool). cond x (suc (tally p (drop (i + 1) t))) (tally p (drop (i + 1) t))) e
 
   pub tally-end : (t : List ℕ) (i : ℕ) → length t ≤ i → tally p (drop i t) ≡ 0
   tally-end t i h = ap (tally p) (drop-of-length-le t h)
@@ -65,14 +67,10 @@ ascii-counted (b ∷ s) = go (ltb 127 b) (leb b 127) (high-not b (ltb 127 b) ref
     go true y h e = rw h (sym (eqb·suc-zero (tally isHigh s)))
     go false y h e = rw h e
 
-and-split : (a b c : Bool) → (a && (b && c)) ≡ ((a && b) && c)
-and-split true b c = refl
-and-split false b c = refl
-
 pub ascii-split : (k : ℕ) (s : List ℕ) → allAscii s ≡ (allAscii (take k s) && allAscii (drop k s))
 ascii-split zero s = refl
 ascii-split (suc k) [] = refl
-ascii-split (suc k) (b ∷ s) = ap (λ (x : Bool). leb b 127 && x) (ascii-split k s) ∙ and-split (leb b 127) (allAscii (take k s)) (allAscii (drop k s))
+ascii-split (suc k) (b ∷ s) = ap (λ (x : Bool). leb b 127 && x) (ascii-split k s) ∙ grouped (leb b 127) (allAscii (take k s)) (allAscii (drop k s))
 
 -- ---- one block further: r is the rest, of which the block was looked at
 

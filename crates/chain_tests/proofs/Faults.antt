@@ -11,6 +11,7 @@ use lib.Dec.{ltb, eqb}
 use lib.ListN.{length, getD, drop}
 use lib.Ieee.{Float, nan, inf, fin, up, down, lt, le, eq, isNan, ofBits}
 use lib.Ieee.Fits.{down-pos}
+use Rattle.laws.proofs.Both.{and-false, and-true}
 use Rattle.float.specs.Floats.{f0, f1}
 use Rattle.float.specs.Range.{inSignedRange}
 use Rattle.chains.specs.Tests.{allOf, isSurvival}
@@ -46,10 +47,6 @@ survival-is x = go (isNan x) (lt x f0) (lt f1 x) ∙ ap (λ (b : Bool). not (lt 
     go false false r = refl
 
 -- ---- one more
-pub and-false : (a : Bool) → (a && false) ≡ false
-and-false true = refl
-and-false false = refl
-
 counted : (p q : Bool) (k : ℕ) (R : Bool) → (eqb k 0 && ((not p && q) && R)) ≡ (eqb (k + cond p 1 0 + cond q 0 1) 0 && R)
 counted true true k R = rw (ne-eqb (k + 1 + 0) 0 (λ e. let w : ⊥ = omega arith in w)) (and-false (eqb k 0))
 counted true false k R = rw (ne-eqb (k + 1 + 1) 0 (λ e. let w : ⊥ = omega arith in w)) (and-false (eqb k 0))
@@ -68,7 +65,3 @@ module _ (values : List Float) (d faults : ℕ) (inv : allOf isSurvival values �
 
   pub faults-end : length values ≤ d → eqb faults 0 ≡ allOf isSurvival values
   faults-end h = sym (and-true (eqb faults 0)) ∙ ap (λ (z : Bool). eqb faults 0 && z) (sym (all-end isSurvival nan values d h)) ∙ sym inv
-    where
-      and-true : (b : Bool) → (b && true) ≡ b
-      and-true true = refl
-      and-true false = refl

@@ -11,13 +11,14 @@ use lib.Dec.{T, ltb}
 use lib.ListN.{length, getD, drop}
 use lib.Ieee.{Float, nan, inf, fin, binary64, fits, up, down, lt, le, eq, isNan, ofBits, toBits}
 use lib.Ieee.Fits.{down-pos}
+use Rattle.laws.proofs.Both.{and-false, and-true, grouped}
 use Rattle.float.specs.Floats.{f0, isClear, infinity}
 use Rattle.float.specs.Range.{inRange, inRangeOrInfinite}
 use Rattle.float.proofs.Classes.{clash}
 use Rattle.float.proofs.Patterns.{pattern-clear}
 use Rattle.chains.specs.Tests.{allOf}
 use Rattle.chains.proofs.Tested.{all-next, all-end}
-use Rattle.chain_tests.proofs.Faults.{at-most, and-false}
+use Rattle.chain_tests.proofs.Faults.{at-most}
 
 -- ---- at most y, where y is above zero: no NaN, and y is not below it
 positive : (a c : ℕ) → ltb (0 * c) (a * 1) ≡ true → 0 < a
@@ -52,10 +53,6 @@ range-is (fin false m e) high h =
     rw (le-ltb (m * up e * 1) (0 * 1 * down e) (omega arith)) (sym (up-to (fin false m e) high h))
 
 -- ---- what the sign bit says of it
-and-true : (b : Bool) → (b && true) ≡ b
-and-true true = refl
-and-true false = refl
-
 no-nan : (x high : Float) → lt f0 high ≡ true → le x high ≡ true → isNan x ≡ false
 no-nan x high h k = go (isNan x) refl
   where
@@ -99,10 +96,6 @@ top-clear a b = go (ltb a (2 ^ 63)) (ltb b (2 ^ 63)) refl refl
     go true true p q = lt-ltb (bitOr a b) (2 ^ 63) (or-lt 63 a b (ltb-true _ _ p) (ltb-true _ _ q))
     go true false p q = le-ltb (bitOr a b) (2 ^ 63) (let k : 2 ^ 63 ≤ b = ltb-false _ _ q in omega (arith, or-add-and a b, and-le-l a b))
     go false q' p q = le-ltb (bitOr a b) (2 ^ 63) (let k : 2 ^ 63 ≤ a = ltb-false _ _ p in omega (arith, or-add-and a b, and-le-r a b))
-
-grouped : (a b c : Bool) → (a && (b && c)) ≡ ((a && b) && c)
-grouped true b c = refl
-grouped false b c = refl
 
 module _ (test : Float → Bool) (values : List Float) (d faults : ℕ) (inv : allOf test values ≡ (ltb faults (2 ^ 63) && allOf test (drop d values))) where
   pub clear-next : (a : ℕ) → d < length values → ltb a (2 ^ 63) ≡ test (getD values d nan)

@@ -7,5 +7,4 @@ pub mod Apart
 pub mod Sorting
 pub mod Composed
 pub mod Pruned
-pub mod Reordered
 pub mod Examples

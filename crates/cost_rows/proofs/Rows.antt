@@ -29,12 +29,6 @@ zip-next (suc n) (x ∷ d) (y ∷ b) [] z i p q r h = absurd (not-suc-le-zero r)
 zip-next (suc n) (x ∷ d) (y ∷ b) (w ∷ s) z zero p q r h = refl
 zip-next (suc n) (x ∷ d) (y ∷ b) (w ∷ s) z (suc i) p q r h = zip-next n d b s z i (le-of-suc-le-suc p) (le-of-suc-le-suc q) (le-of-suc-le-suc r) (le-of-suc-le-suc h)
 
--- inside a list nothing hangs on what stands past its end
-pub getD-any : {A : Type 0} (l : List A) (i : ℕ) (x y : A) → i < length l → getD l i x ≡ getD l i y
-getD-any [] i x y h = absurd (not-suc-le-zero h)
-getD-any (a ∷ l) zero x y h = refl
-getD-any (a ∷ l) (suc i) x y h = getD-any l i x y (le-of-suc-le-suc h)
-
 -- the columns' rows, by a count that was worked out
 pub table-is : (rows n : ℕ) (d b : List ℕ) (s : List Float) → n ≡ counted rows d b s → zip n d b s ≡ table rows d b s
 table-is rows n d b s e = ap (λ m. zip m d b s) e

@@ -9,7 +9,7 @@ use borrow.Author.Tests.{lt-ltb, le-ltb, eq-eqb, ne-eqb}
 use lib.Dec.{ltb, eqb}
 use lib.ListN.{length, getD, take, drop, length-append, length-drop, drop-of-length-le}
 use lib.Seq.{length-take-le, drop-cons, take-length, drop-drop, drop-append-seam, take-append-seam}
-use Rattle.blocks.proofs.Finding.{part}
+use Rattle.laws.proofs.Lists.{part}
 use Rattle.text.specs.Lines.{startsWith}
 use Rattle.day_paths.specs.Paths.{folderLength, keptOf, pathOf, placedBeside}
 

@@ -1,5 +1,5 @@
 -- From what the calls gave to the decision, policy by policy. Assumes nothing.
-use Prim.Native.Nat.{ℕ, _+_, _≤_}
+use Prim.Native.Nat.{ℕ, _+_}
 use mathlib.Core.Path.{_≡_, refl, sym, ap, _∙_}
 use mathlib.Core.Bool.{Bool, true, false, cond}
 use mathlib.Core.List.{List, _++_, append-nil}
@@ -7,8 +7,7 @@ use native.Mathlib.Omega.{arith}
 use lib.ListN.{length, drop, replicate}
 use lib.Seq.{drop-length}
 use lib.Ieee.{Float, binary64, toBits}
-use Rattle.acceptance.specs.declared.AcceptanceModel.{AcceptanceModel}
-use Rattle.acceptance.specs.declared.AcceptanceModel.the-variants.{Constant, PerPosition, Trace}
+use Rattle.asking.proofs.Passed.{gamma-in-le}
 use Rattle.switch_settings.specs.Switch.{isUnconstrained}
 use Rattle.switching.specs.declared.Switching.{Switching}
 use Rattle.ledger_rows.specs.declared.layout.Past.{Past}
@@ -16,7 +15,7 @@ use Rattle.ledger.specs.declared.answer.Decision.the-variants.{Nothing, Put}
 use Rattle.settings.specs.declared.Policy.{Policy}
 use Rattle.settings.specs.declared.Policy.the-variants.{Fixed, GoodputBudget, GatedBudget, GatedAggregate}
 use Rattle.settings.specs.declared.Settings.{Settings}
-use Rattle.settings.specs.Settings.{cappedBy, gammaUnder, gammaIn, usesCosts, usesSignals}
+use Rattle.settings.specs.Settings.{gammaIn, usesCosts, usesSignals}
 use Rattle.asking.specs.declared.Ask.{Ask}
 use Rattle.asking.specs.Asked.{Lent}
 use Rattle.deciding.specs.Deciding.{Decided, meanExpected, toward, allAt, allPut, bestIn, byMean, byGate, byAggregate, decidedBy}
@@ -24,25 +23,10 @@ use Rattle.gating.specs.Chains.{chainsBy}
 use Rattle.gating.specs.Batch.{Gate, gateOver, Batched}
 use Rattle.deciding.specs.Ready.{looped, Ready}
 
--- ---- no depth is above the setting's
-capped-low : (model : AcceptanceModel) (gamma depth : ℕ) → cappedBy model gamma depth ≤ gamma
-capped-low (Constant alpha) gamma depth = omega arith
-capped-low PerPosition gamma depth = omega arith
-capped-low Trace gamma depth = omega arith
-
-under-low : (p : Policy) (model : AcceptanceModel) (gamma depth : ℕ) → gammaUnder p model gamma depth ≤ gamma
-under-low Fixed model gamma depth = omega arith
-under-low GoodputBudget model gamma depth = capped-low model gamma depth
-under-low GatedBudget model gamma depth = capped-low model gamma depth
-under-low GatedAggregate model gamma depth = capped-low model gamma depth
-
-pub gamma-low : (s : Settings) (depth : ℕ) → gammaIn s depth ≤ s .gamma
-gamma-low s depth = under-low (s .policy) (s .model) (s .gamma) depth
-
 -- ---- what a gated policy is ready with
 pub batched : (s : Settings) (a : Ask) {past : Past} {bank : List Float} {indices : List ℕ} {curve : List Float} {drafts : List ℕ}
     → Ready s a past bank indices curve drafts → usesCosts (s .policy) ≡ true → usesSignals (s .policy) ≡ true → Batched s a (gammaIn s (a .depth)) indices curve drafts
-batched s a r c u = record { shallow = omega (arith, gamma-low s (a .depth), r .shallow); few = r .few; room = r .room; priced = r .priced c; indexed = r .indexed u }
+batched s a r c u = record { shallow = omega (arith, gamma-in-le s (a .depth), r .shallow); few = r .few; room = r .room; priced = r .priced c; indexed = r .indexed u }
 
 -- ---- one draft for all
 pub filled : (s : List ℕ) (i v : ℕ) → length s ≡ i → replicate i v ++ drop i s ≡ replicate (length s) v

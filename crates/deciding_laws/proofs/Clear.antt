@@ -1,15 +1,15 @@
 -- What a batch is expected to accept is a number with a clear sign bit at every depth: by a model that passed, by a bank's curve in range, and by the chains of a model or of finite signals. Assumes nothing.
 use Prim.Native.Nat.{ℕ, zero, suc, _+_, _-_, _≤_, _<_, min}
 use mathlib.Core.Path.{_≡_, refl}
-use mathlib.Core.Bool.{Bool, true, false, _&&_}
+use mathlib.Core.Bool.{Bool, true}
 use mathlib.Core.List.{List, [], _∷_, _++_}
 use native.Mathlib.Omega.{arith}
 use borrow.Author.Tests.{le-leb}
 use lib.ListN.{length, take, replicate}
 use lib.Seq.{take-append-le, take-nil, drop-at}
 use lib.Ieee.{Float, ofBits}
+use Rattle.laws.proofs.Both.{both}
 use Rattle.float.specs.Floats.{f0, f1, isFinite}
-use Rattle.float.proofs.Classes.{clash}
 use Rattle.float.proofs.Ranges.{range-finite}
 use Rattle.acceptance.specs.Acceptance.{modelRefusal}
 use Rattle.acceptance.specs.declared.AcceptanceModel.{AcceptanceModel}
@@ -30,10 +30,6 @@ use Rattle.rounds.proofs.Parts.{values-length}
 use Rattle.rounds.proofs.Laying.{slots-length, chain-length, round-length}
 use Rattle.gating.specs.Chains.{chainsBy, chainsExpected}
 use Rattle.deciding.specs.Deciding.{meanExpected}
-
-both : (a b : Bool) → (a && b) ≡ true → (a ≡ true) × (b ≡ true)
-both true b h = (refl, h)
-both false b h = clash h
 
 -- ---- tests of every entry
 module _ (test : Float → Bool) where

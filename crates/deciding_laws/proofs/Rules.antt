@@ -7,6 +7,7 @@ use native.Mathlib.Omega.{arith}
 use lib.ListN.{length, take, replicate}
 use lib.Seq.{length-take-le}
 use lib.Ieee.{Float}
+use Rattle.asking.proofs.Passed.{gamma-in-le}
 use Rattle.float.proofs.Classes.{clash}
 use Rattle.acceptance.specs.Acceptance.{modelRefusal}
 use Rattle.acceptance.specs.declared.AcceptanceModel.{AcceptanceModel}
@@ -30,7 +31,6 @@ use Rattle.asking.specs.Asked.{Lent}
 use Rattle.deciding.specs.Deciding.{meanExpected, toward, allAt, each, allPut, chainsIn, decidedBy}
 use Rattle.gating.specs.Chains.{chainsExpected, gateAt}
 use Rattle.deciding.specs.Ready.{looped, lentOf}
-use Rattle.deciding.proofs.Decisions.{gamma-low}
 use Rattle.deciding.proofs.Means.{mean-length}
 use Rattle.deciding_laws.proofs.Clear.{chained-clear, Bank, mean-clear}
 
@@ -66,7 +66,7 @@ module _ (s : Settings) (a : Ask) (l : Lent) (curve : List Float) (j : Judged s 
   best es prices = bestPriced (s .drafter) (a .sequences) (a .rates) (l .loaded) es prices
 
   low : gammaIn s (a .depth) ≤ 64
-  low = omega (arith, gamma-low s (a .depth), j .shallow)
+  low = omega (arith, gamma-in-le s (a .depth), j .shallow)
 
   over : (es : List Float) → length es ≡ gammaIn s (a .depth) + 1 → usesCosts (s .policy) ≡ true → AllClear es → looped s a (l .loaded) es curve ≡ best es curve
   over es n u E = over-best (s .drafter) (a .sequences) (a .rates) (loadedAt (s .drafter) (l .loaded) (a .sequences)) es curve (n ∙ sym (j .priced u)) E

@@ -11,17 +11,18 @@ use lib.Dec.{T, ltb}
 use lib.ListN.{length, getD, take, drop, length-append, drop-of-length-le}
 use lib.Seq.{take-all}
 use lib.Ieee.{binary64, round}
+use Rattle.laws.proofs.Both.{and-false, or-right}
 use Rattle.decimals.specs.declared.Decimal.the-variants.{Value, Malformed, TooLong}
 use Rattle.digits.specs.declared.Digits.{Digits}
 use Rattle.digits.specs.Digits.{isDigit, allDigits, number, countWhile, leadingDigits, leadingZeros, significant, point, isZero, isNoPoint}
 use Rattle.decimals.specs.Decimals.{decimalRefusal, Spelled, ofParts, unsignedOf, isTooLong}
 use Rattle.digits.proofs.Bytes.{count-before, count-through, count-past, count-ends, count-goes-on, count-stops}
-use Rattle.digits.proofs.Leading.{and-false, all-append, number-append, few-below, all-leading, all-by-count, other-by-count, other-among, capped-before, count-is, number-is as number-from, number-of-all}
+use Rattle.digits.proofs.Leading.{all-append, number-append, few-below, all-leading, all-by-count, other-by-count, other-among, capped-before, count-is, number-is as number-from, number-of-all}
 
-above-zero : (n : ℕ) → (n ≡ 0 → ⊥) → 0 < n
+pub above-zero : (n : ℕ) → (n ≡ 0 → ⊥) → 0 < n
 above-zero n h = omega arith
 
-no-more : (n : ℕ) → n ≡ 0 → n ≤ 0
+pub no-more : (n : ℕ) → n ≡ 0 → n ≤ 0
 no-more n e = omega arith
 
 -- ---- how many digits
@@ -47,10 +48,6 @@ module _ (w f : List ℕ) where
   or-left : (a b : Bool) → (a || b) ≡ false → a ≡ false
   or-left true b k = k
   or-left false b k = refl
-
-  or-right : (a b : Bool) → (a || b) ≡ false → b ≡ false
-  or-right true b k = cc
-  or-right false b k = k
 
   pub few-significant : isTooLong w f ≡ false → significant (w ++ f) ≤ 15
   unfolding isTooLong

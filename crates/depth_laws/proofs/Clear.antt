@@ -2,35 +2,20 @@
 use mathlib.Core.Path.{_≡_, refl, sym, _∙_, ap}
 use mathlib.Core.Bool.{Bool, true, false, not, cond}
 use mathlib.Core.Logic.{⊎-elim}
-use Prim.Native.Nat.{ℕ, zero, suc, _+_, _-_, _*_, _≤_, _<_, _^_}
+use Prim.Native.Nat.{ℕ, _+_, _-_, _*_, _≤_, _<_}
 use native.Mathlib.Nat.{mul-pos, zero-mul}
 use native.Mathlib.Omega.{arith}
 use lib.Dec.{T, ltb, eqb, ltb→lt, lt→ltb}
 use lib.IntN.{ℤ}
-use lib.Ieee.{Float, nan, inf, fin, Format, binary64, prec, low, emax, up, down, odd, units, round, sum, add, mul, div, lt, isNan, ofInt, ofBits, neg}
-use lib.Ieee.Fits.{round-is, up-pos, down-pos}
+use lib.Ieee.{Float, nan, inf, fin, Format, binary64, up, down, round, sum, add, mul, div, lt, isNan, ofInt, ofBits, neg}
+use lib.Ieee.Fits.{up-pos, down-pos}
 use lib.Ieee.Positive.{positive, first-pos}
 use borrow.Author.Tests.{ltb-false, lt-ltb, le-ltb, ne-eqb}
+use Rattle.float.proofs.Rounded.{round-clear}
 use Rattle.float.specs.Floats.{f0, isClear, isFinite, maxOf, whole}
 use Rattle.float.proofs.Maximum.{max-one}
 use Rattle.depths.specs.Goodput.{tiny, least, goodputOf}
 use Rattle.float.proofs.Classes.{clash}
-
-odd-clear : (d q k l : ℕ) → isClear (odd d false q k l) ≡ true
-unfolding odd isClear
-odd-clear d zero k l = refl
-odd-clear d (suc q) k l = refl
-
-units-clear : (f : Format) (q k : ℕ) → isClear (units f false q k) ≡ true
-unfolding units isClear
-units-clear f q k = go (ltb (q * 2 ^ k) (2 ^ (low f + suc (emax f))))
-  where
-    go : (b : Bool) → isClear (cond b (odd (suc (prec f)) false q k (low f)) (inf false)) ≡ true
-    go true = odd-clear (suc (prec f)) q k (low f)
-    go false = refl
-
-pub round-clear : (f : Format) (a c : ℕ) → isClear (round f false a c) ≡ true
-round-clear f a c = ap isClear (round-is f false a c) ∙ units-clear f _ _
 
 pub whole-clear : (n : ℕ) → isClear (whole n) ≡ true
 unfolding ofInt
@@ -192,8 +177,8 @@ max-no-sign x y h k = ⊎-elim (λ (e : maxOf x y ≡ x). ap noSign e ∙ h) (λ
 
 -- ---- a clear float and a survival, which may be minus zero, add up to a clear one
 
-zero-right : (a b : ℕ) → a ≡ 0 → a * b ≡ 0
-zero-right a b e = ap (λ (x : ℕ). x * b) e ∙ zero-mul b
+pub left-zero : (a b : ℕ) → a ≡ 0 → a * b ≡ 0
+left-zero a b e = ap (λ (x : ℕ). x * b) e ∙ zero-mul b
 
 none-below : (d u v : ℕ) → ltb 0 (u * 1 + 0 * 1 * v) ≡ false → u ≡ 0
 none-below d u v h = let k : u * 1 + 0 * 1 * v ≤ 0 = ltb-false 0 (u * 1 + 0 * 1 * v) h in omega arith
@@ -215,4 +200,4 @@ add-survival (fin false m e) (inf true) h k o = clash (sym k)
 add-survival (fin false m e) (inf false) h k o = refl
 add-survival (fin false m e) (fin false n d) h k o = round-clear binary64 (m * up e * down d + n * up d * down e) (down e * down d)
 add-survival (fin false m e) (fin true n d) h k o =
-    take-away binary64 (m * up e * down d) (n * up d * down e) (down e * down d) (zero-right (n * up d) (down e) (none-below n (n * up d) (down d) k))
+    take-away binary64 (m * up e * down d) (n * up d * down e) (down e * down d) (left-zero (n * up d) (down e) (none-below n (n * up d) (down d) k))

@@ -1,13 +1,13 @@
 -- The Rust's depth is the rules', whatever the costs are; and in the domain the expected values have a clear sign bit and are no NaN. Assumes nothing.
 use mathlib.Core.Path.{_≡_, refl, sym, _∙_}
-use mathlib.Core.Bool.{Bool, true, false, _&&_}
+use mathlib.Core.Bool.{true, _&&_}
 use mathlib.Core.List.{List, [], _∷_, _++_}
 use Prim.Native.Nat.{ℕ, zero, suc, _+_, _-_, min}
 use lib.Dec.{leb}
 use lib.ListN.{length, getD, take, drop, replicate}
 use lib.Ieee.{Float, nan, binary64, ofBits}
+use Rattle.laws.proofs.Both.{both}
 use Rattle.float.specs.Floats.{plus, f0, f1, isClear}
-use Rattle.float.proofs.Classes.{clash}
 use Rattle.float.proofs.Ranges.{range-clear, signed-low, signed-no-nan}
 use Rattle.speculative.specs.declared.drafter.Rates.{Rates}
 use Rattle.speculative.specs.declared.drafter.DrafterCost.{DrafterCost}
@@ -19,10 +19,6 @@ use Rattle.chains.proofs.Fill.{length-scan}
 use Rattle.chains.proofs.Tested.{all-says}
 use Rattle.depth_laws.proofs.Clear.{add-clear, add-survival}
 use Rattle.depth_laws.proofs.Wins.{AllClear, loop-is-best}
-
-both : (a b : Bool) → (a && b) ≡ true → (a ≡ true) × (b ≡ true)
-both true b h = (refl, h)
-both false b h = clash h
 
 f0-clear : isClear f0 ≡ true
 unfolding isClear ofBits

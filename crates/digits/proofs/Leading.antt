@@ -10,15 +10,12 @@ use lib.Dec.{T, leb, leb→le, leb·suc-suc, leb·suc-zero, eqb, lit<}
 use lib.ListN.{length, getD, take, drop, drop-of-length-le}
 use lib.Seq.{take-all}
 use lib.Ieee.Fits.{and-l, and-r}
+use Rattle.laws.proofs.Lists.{next}
+use Rattle.laws.proofs.Both.{and-false}
 use Rattle.digits.specs.declared.Digits.{Digits}
 use Rattle.digits.specs.Digits.{isDigit, allDigits, number, countWhile, leadingDigits, leadingZeros, significant}
-use Rattle.digits.proofs.Bytes.{next}
 
 -- ---- whether all are digits
-
-pub and-false : (a : Bool) → (a && false) ≡ false
-and-false true = refl
-and-false false = refl
 
 pub low-byte : (b : ℕ) → b < 48 → isDigit b ≡ false
 low-byte b h = rw (lt-leb 48 b h)
@@ -170,11 +167,11 @@ module _ (l : ℕ) (t : List ℕ) (i n : ℕ) where
       let r = drop (i + 1) t in
       let k = countWhile isDigit r in
       let m = min (number (n * 10 + (getD t i 0 - 48)) (take k r)) l in
-      rw (next t i h, e) (same (i + suc k) m (i + 1 + k) m (one-more-digit i k) refl)
+      rw (next t i 0 h, e) (same (i + suc k) m (i + 1 + k) m (one-more-digit i k) refl)
 
   pub leading-stops : n ≤ l → i < length t → isDigit (getD t i 0) ≡ false → after i (leadingDigits n l (drop i t)) ≡ record { count = i; number = n }
   unfolding leadingDigits
-  leading-stops h k e = rw (next t i k, e) (same (i + 0) (min n l) i n (no-further i) (min-eq-left h))
+  leading-stops h k e = rw (next t i 0 k, e) (same (i + 0) (min n l) i n (no-further i) (min-eq-left h))
 
   pub leading-ends : n ≤ l → length t ≤ i → after i (leadingDigits n l (drop i t)) ≡ record { count = i; number = n }
   unfolding leadingDigits

@@ -1,17 +1,17 @@
 -- What is refused of a draft's counts, widths and loaded experts, and each turn of a walk over them. Assumes nothing.
 use mathlib.Core.Path.{_≡_, sym, ap, _∙_}
 use mathlib.Core.Bool.{Bool, true, false, _&&_, cond}
-use mathlib.Core.List.{List, _∷_}
+use mathlib.Core.List.{List}
 use Prim.Native.Nat.{ℕ, _+_, max, _≤_, _<_}
 use native.Mathlib.Numerals.{add-one}
 use borrow.Author.Tests.{le-leb, lt-leb, lt-ltb, le-ltb}
 use lib.ListN.{length, getD, drop, take, drop-of-length-le}
 use lib.Seq.{drop-cons}
 use lib.Ieee.{Float, nan}
+use Rattle.laws.proofs.Lists.{next}
 use Rattle.float.specs.Floats.{f0}
 use Rattle.float.specs.Range.{inRange}
 use Rattle.acceptance.specs.Acceptance.{mostGamma}
-use Rattle.acceptance.proofs.Judged.{next}
 use Rattle.draft_inputs.specs.Inputs.{million, mostCount, isParams, isHead, allWidths, allLoaded, entriesRefusal, largest, stillDrafting}
 
 -- ---- a test that is known, before another
@@ -33,20 +33,17 @@ module _ (dense expert : Float) (experts k shared : ℕ) where
   head-judged a r f g h p q = rw (le-leb experts mostCount f, le-leb k mostCount g, le-leb shared mostCount h, p) q
 
 -- ---- lists, an entry at a time
-next-width : (t : List ℕ) (i : ℕ) → i < length t → drop i t ≡ getD t i 0 ∷ drop (i + 1) t
-next-width t i h = drop-cons t i 0 h ∙ ap (λ (n : ℕ). getD t i 0 ∷ drop n t) (sym (add-one i))
-
 pub widths-next : (t : List ℕ) (i : ℕ) → i < length t → getD t i 0 ≤ mostGamma → allWidths (drop i t) ≡ allWidths (drop (i + 1) t)
-widths-next t i h e = ap allWidths (next-width t i h) ∙ ap (λ (b : Bool). b && allWidths (drop (i + 1) t)) (le-leb (getD t i 0) mostGamma e)
+widths-next t i h e = ap allWidths (next t i 0 h) ∙ ap (λ (b : Bool). b && allWidths (drop (i + 1) t)) (le-leb (getD t i 0) mostGamma e)
 
 pub widths-stop : (t : List ℕ) (i : ℕ) → i < length t → mostGamma < getD t i 0 → allWidths (drop i t) ≡ false
-widths-stop t i h e = ap allWidths (next-width t i h) ∙ ap (λ (b : Bool). b && allWidths (drop (i + 1) t)) (lt-leb (getD t i 0) mostGamma e)
+widths-stop t i h e = ap allWidths (next t i 0 h) ∙ ap (λ (b : Bool). b && allWidths (drop (i + 1) t)) (lt-leb (getD t i 0) mostGamma e)
 
 pub widths-end : (t : List ℕ) (i : ℕ) → length t ≤ i → allWidths (drop i t) ≡ true
 widths-end t i h = ap allWidths (drop-of-length-le t h)
 
 pub loaded-next : (z : Bool) (t : List Float) (i : ℕ) → i < length t → inRange f0 million (getD t i nan) ≡ z → allLoaded (drop i t) ≡ (z && allLoaded (drop (i + 1) t))
-loaded-next z t i h e = ap allLoaded (next t i h) ∙ ap (λ (b : Bool). b && allLoaded (drop (i + 1) t)) e
+loaded-next z t i h e = ap allLoaded (next t i nan h) ∙ ap (λ (b : Bool). b && allLoaded (drop (i + 1) t)) e
 
 pub loaded-end : (t : List Float) (i : ℕ) → length t ≤ i → allLoaded (drop i t) ≡ true
 loaded-end t i h = ap allLoaded (drop-of-length-le t h)

@@ -1,6 +1,6 @@
 -- Laws of the decimal in the first field of a line: where its digits end, and what the field up to the comma says. Assumes nothing.
 use mathlib.Core.Path.{_≡_, refl, sym, ap, _∙_, subst}
-use mathlib.Core.Bool.{Bool, true, false, not, _||_, cond}
+use mathlib.Core.Bool.{Bool, true, false, not, cond}
 use mathlib.Core.List.{List, [], _∷_, _++_}
 use Prim.Native.Nat.{ℕ, zero, suc, _+_, _-_, _^_, _≤_, _<_, min}
 use native.Mathlib.Nat.{zero-add, suc-add, le-refl, le-suc, le-of-suc-le-suc}
@@ -10,12 +10,14 @@ use borrow.Author.Tests.{eqb-true, ne-eqb}
 use lib.Dec.{T, eqb}
 use lib.ListN.{length, getD, take, drop, drop-of-length-le}
 use lib.Seq.{take-take, take-nil, drop-nil}
+use Rattle.laws.proofs.Both.{or-right}
+use Rattle.laws.proofs.Lists.{next}
 use Rattle.digits.specs.declared.Digits.{Digits}
 use Rattle.digits.specs.Digits.{isDigit, number, countWhile, leadingDigits, point, isNoPoint}
 use Rattle.first_field.specs.Front.{isNoComma, fieldLength}
 use Rattle.decimals.specs.Decimals.{Spelled, ofParts, unsignedOf, decimalOf}
 use Rattle.digits.specs.Signs.{afterSign, isNegative, isSign, isMinus}
-use Rattle.digits.proofs.Bytes.{next, count-past, count-goes-on}
+use Rattle.digits.proofs.Bytes.{count-past, count-goes-on}
 use Rattle.digits.proofs.Leading.{number-append, capped-before, count-is, number-is}
 use Rattle.decimals.proofs.Outcomes.{at-point, digits-before}
 
@@ -45,7 +47,7 @@ drop-take (suc a) b (x ∷ l) = ap (λ (n : ℕ). drop (suc a) (take n (x ∷ l)
 -- ---- whether the field ends at a place
 
 pub end-here : (s : List ℕ) (i : ℕ) → i < length s → eqb (getD s i 0) 44 ≡ eqb (fieldLength (drop i s)) 0
-end-here s i h = go (eqb (getD s i 0) 44) ∙ ap (λ (l : List ℕ). eqb (fieldLength l) 0) (sym (next s i h))
+end-here s i h = go (eqb (getD s i 0) 44) ∙ ap (λ (l : List ℕ). eqb (fieldLength l) 0) (sym (next s i 0 h))
   where
     go : (z : Bool) → z ≡ eqb (cond (not z) (suc (fieldLength (drop (i + 1) s))) 0) 0
     go true = refl
@@ -120,10 +122,6 @@ sign-length (b ∷ s) = go (isSign b) (no-comma isSign refl b)
     go : (z : Bool) → (z ≡ true → isNoComma b ≡ true) → suc (length s) - length (cond z s (b ∷ s)) + fieldLength (cond z s (b ∷ s)) ≡ fieldLength (b ∷ s)
     go true h = rw (h refl) (omega arith)
     go false h = omega arith
-
-or-right : (a b : Bool) → (a || b) ≡ false → b ≡ false
-or-right true b k = cc
-or-right false b k = k
 
 pub sign-decimal : (l : List ℕ) → unsignedOf (isNegative l) (take (fieldLength (afterSign l)) (afterSign l)) ≡ decimalOf (take (fieldLength l) l)
 unfolding decimalOf

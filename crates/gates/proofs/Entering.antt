@@ -10,6 +10,7 @@ use lib.Dec.{leb}
 use lib.ListN.{length, take, drop}
 use lib.Seq.{length-take-le}
 use lib.Ieee.{Float}
+use Rattle.refusals.proofs.First.{first-zero}
 use Rattle.float.proofs.Classes.{clash}
 use Rattle.speculative.specs.Acceptance.{firstOf}
 use Rattle.speculative.specs.Drafter.{drafterRefusal, inputsRefusal, loadedAt}
@@ -25,7 +26,7 @@ use Rattle.goodput_judges.specs.Refusals.{isPricedBatch, aggregateRefusal}
 use Rattle.goodput.specs.declared.depth.Depth.{Depth}
 use Rattle.goodput.specs.declared.depth.Depth.the-variants.{Best as Found, Refused as Unfound}
 use Rattle.chains.proofs.Fill.{length-scan}
-use Rattle.goodput_judges.proofs.Judges.{first-given, first-none, first-zero, drafter-first, too-deep, too-many, sizes-none, sizes-passed, inputs-passed}
+use Rattle.goodput_judges.proofs.Judges.{first-given, first-none, drafter-first, too-deep, too-many, sizes-none, sizes-passed, inputs-passed}
 use Rattle.goodput.proofs.Batches.{narrow}
 use Rattle.goodput_judges.proofs.Stages.{stages-none}
 use Rattle.slots.specs.Slots.{Fits}

@@ -9,12 +9,7 @@ use Rattle.heap.specs.Frontier.{Choice, nobody, chosen, next}
 use Rattle.heap.specs.Greedy.{Stacks, headOf, tailOf, frontier, total, Verdict, takes, leaves, stops, Outcome, afterwards, upon, run}
 use Rattle.heap.proofs.Next.{next-first}
 use Rattle.heap.proofs.Frontiers.{in-frontier}
-use Rattle.heap.proofs.Steps.{on-head}
-
-total-set : (s : Stacks) (k : ℕ) (x : List ℕ) → k < length s → total (set s k x) + length (getD s k []) ≡ total s + length x
-total-set [] k x h = absurd (omega arith)
-total-set (y ∷ s) zero x h = omega arith
-total-set (y ∷ s) (suc k) x h = omega (arith, total-set s k x (omega arith))
+use Rattle.heap.proofs.Steps.{on-head, total-set}
 
 -- the stack of the one that is chosen, and what is left once a shorter one takes its place
 module _ (s : Stacks) (k r : ℕ) (e : next (frontier s) ≡ chosen k r) where

@@ -12,6 +12,7 @@ use lib.IntN.{ℤ, pos}
 use lib.Ieee.{Float, nan, inf, fin, Format, binary64, up, down, round, sum, add, lt, isNan, ofBits}
 use lib.Ieee.Fits.{down-pos}
 use lib.Ieee.Scale.{round-same}
+use Rattle.laws.proofs.Both.{both}
 use Rattle.float.specs.Floats.{plus, f0, f1, isClear}
 use Rattle.float.proofs.Classes.{clash}
 use Rattle.float.proofs.Ranges.{signed-low, signed-no-nan}
@@ -112,10 +113,6 @@ with-sum a b x y at of = record { clear = add-clear binary64 b y (at .clear) (of
     go (inr p) (inl q) = inl (ap (λ (v : Float). plus v x) (p .0) ∙ ap (plus minusZero) q ∙ plus-left y (clear-no-sign y (of .clear)) ∙ ap (λ (v : Float). plus v y) (sym (p .1)))
     go (inr p) (inr q) =
         inr (ap (λ (v : Float). plus v x) (p .0) ∙ ap (plus minusZero) (q .0) ∙ zeros-added .0, ap (λ (v : Float). plus v y) (p .1) ∙ ap (plus f0) (q .1) ∙ zeros-added .1)
-
-both : (a b : Bool) → (a && b) ≡ true → (a ≡ true) × (b ≡ true)
-both true b h = (refl, h)
-both false b h = clash h
 
 -- a whole chain
 pub with-chain : (chain : List Float) (a b : Float) → allOf isSurvival chain ≡ true → Alike a b → Alike (sumFrom a chain) (sumFrom b chain)

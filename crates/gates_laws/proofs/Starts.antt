@@ -9,10 +9,10 @@ use native.Mathlib.Omega.{arith}
 use lib.Dec.{leb, eqb}
 use lib.ListN.{length, take, drop, replicate}
 use lib.Ieee.{Float, binary64, ofBits}
+use Rattle.laws.proofs.Both.{both}
 use Rattle.float.specs.Floats.{plus, times, over, f0, f1, f2, whole, maxOf, isClear}
 use Rattle.float.specs.Range.{inRange}
 use Rattle.float.proofs.Ranges.{range-clear}
-use Rattle.float.proofs.Classes.{clash}
 use Rattle.speculative.specs.Drafter.{stillDrafting, withExperts, headPass, passSeconds, loadedAt, isCount, isParams, isDrafter, isStreamed, quintillion}
 use Rattle.speculative.specs.declared.drafter.Rates.{Rates}
 use Rattle.speculative.specs.declared.drafter.DrafterCost.{DrafterCost}
@@ -28,10 +28,6 @@ use Rattle.trim.specs.Ragged.{sumFrom, survivalsFrom, tokensFrom, passesOf, ful
 use Rattle.trim.proofs.Adding.{still-few}
 use Rattle.gates_laws.specs.Starts.{minusZero, survivalsOver, passesOver, draftOver, raggedOver}
 use Rattle.gates_laws.proofs.Signs.{Alike, zeros, plus-left, plus-right, with-sum, with-chain}
-
-both : (a b : Bool) → (a && b) ≡ true → (a ≡ true) × (b ≡ true)
-both true b h = (refl, h)
-both false b h = clash h
 
 -- ---- survivals
 fewer : (chain : List Float) (j k : ℕ) → j ≤ k → allOf isSurvival (take k chain) ≡ true → allOf isSurvival (take j chain) ≡ true

@@ -2,7 +2,6 @@
 -- chain's length, nor above the depth. The ragged gate starts from these widths, so it only lowers them. Assumes nothing.
 use Prim.Native.Nat.{ℕ, zero, suc, _+_, _-_, _*_, _≤_, _<_}
 use mathlib.Core.Path.{_≡_, refl, sym, ap, _∙_}
-use mathlib.Core.Bool.{Bool, true, false, cond}
 use mathlib.Core.List.{List, []}
 use mathlib.Core.Option.{some}
 use native.Mathlib.Decide.{ℕ-discrete}
@@ -24,7 +23,7 @@ use Rattle.slots.specs.Slots.{starts, sum, upTo, downFrom, stacks, survival}
 use Rattle.slots.specs.Gate.{State, judged, Chosen}
 use Rattle.block.specs.Block.{addSlot, blockFrom, blockWidths, blockGate}
 use Rattle.trim.specs.Ragged.{marginOf, fullDraft, dropSlot, passOf, raggedWidths, raggedGate}
-use Rattle.slots.proofs.Stacked.{stacks-length, stacks-at, stacks-total, starts-length, starts-at, sum-starts, up-short, down-short}
+use Rattle.slots.proofs.Stacked.{stacks-length, stacks-at, stacks-total, starts-length, starts-at, up-short, down-short}
 
 -- no width of ws is above that of `caps`
 abbrev pub Under : List ℕ → List ℕ → Type 0
@@ -38,10 +37,6 @@ under-depth depth lengths ws h k l = omega (arith, h k (omega (arith, starts-len
 
 under-zeros : (caps : List ℕ) (n : ℕ) → length caps ≡ n → Under caps (replicate n 0)
 under-zeros caps n e k l = omega (arith, getD-replicate {A = ℕ} n k 0 0 (omega arith))
-
-either : (b : Bool) (P : Chosen → Type 0) (x y : Chosen) → P x → P y → P (cond b x y)
-either true P x y p q = p
-either false P x y p q = q
 
 -- ---- what a gate keeps of its widths and stacks: `new` is what becomes of a width
 module _ (decide : State → ℕ → ℕ → Decision) (new : ℕ → ℕ) (P : List ℕ → Stacks → Type 0) (Q : List ℕ → Type 0)
@@ -132,12 +127,12 @@ module _ (price : Float → Float) (chains : List Float) where
   module _ (lengths : List ℕ) (curve : List Float) (depth : ℕ) (kind : DrafterCost) (rates : Rates) (loaded : List Float) where
     pub block-weighed : blockGate price chains lengths curve depth kind rates loaded .weighed ≤ sum (starts depth lengths)
     unfolding blockGate blockWidths
-    block-weighed = either (eqb depth 0) (λ g. g .weighed ≤ sum (starts depth lengths)) _ _ (omega arith) (from-few depth _ lengths)
+    block-weighed = either {A = Chosen} (eqb depth 0) (λ g. g .weighed ≤ sum (starts depth lengths)) _ _ (omega arith) (from-few depth _ lengths)
 
     pub block-widths : Under (starts depth lengths) (blockGate price chains lengths curve depth kind rates loaded .widths)
     unfolding blockGate blockWidths
     block-widths =
-        either (eqb depth 0) (λ g. Under (starts depth lengths) (g .widths)) _ _ (under-zeros (starts depth lengths) (length lengths) (starts-length depth lengths)) (from-under depth _ lengths)
+        either {A = Chosen} (eqb depth 0) (λ g. Under (starts depth lengths) (g .widths)) _ _ (under-zeros (starts depth lengths) (length lengths) (starts-length depth lengths)) (from-under depth _ lengths)
 
 -- ---- the ragged gate: widths only fall
 module _ (caps : List ℕ) where
@@ -170,14 +165,10 @@ module _ (pass : ℕ → Float) (price : Float → Float) (chains : List Float) 
 module _ (price : Float → Float) (chains : List Float) (lengths : List ℕ) (depth : ℕ) (kind : DrafterCost) (rates : Rates) (loaded : List Float) where
   pub ragged-weighed : raggedGate price chains lengths depth kind rates loaded .weighed ≤ sum (starts depth lengths)
   unfolding raggedGate
-  ragged-weighed = either (eqb depth 0) (λ g. g .weighed ≤ sum (starts depth lengths)) _ _ (omega arith) (trimmed-few (passOf kind rates loaded) price chains depth (starts depth lengths))
+  ragged-weighed = either {A = Chosen} (eqb depth 0) (λ g. g .weighed ≤ sum (starts depth lengths)) _ _ (omega arith) (trimmed-few (passOf kind rates loaded) price chains depth (starts depth lengths))
 
   pub ragged-widths : Under (starts depth lengths) (raggedGate price chains lengths depth kind rates loaded .widths)
   unfolding raggedGate
   ragged-widths =
-      either (eqb depth 0) (λ g. Under (starts depth lengths) (g .widths)) _ _ (under-zeros (starts depth lengths) (length lengths) (starts-length depth lengths))
+      either {A = Chosen} (eqb depth 0) (λ g. Under (starts depth lengths) (g .widths)) _ _ (under-zeros (starts depth lengths) (length lengths) (starts-length depth lengths))
       (trimmed-under (passOf kind rates loaded) price chains depth (starts depth lengths))
-
--- the slots up to the depth are no more than all
-pub fewer : (depth : ℕ) (lengths : List ℕ) → sum (starts depth lengths) ≤ sum lengths
-fewer depth lengths = sum-starts depth lengths

@@ -111,13 +111,6 @@ module _ (lengths : List ℕ) (n gamma : ℕ) (L : lengths ≡ replicate n gamma
           let c = gateOf kind rates loaded curve lengths chains depth in
           ap (λ (b : Bool). gateBy b depth c drafts) (sym o) ∙ to-gate c drafts refl
 
--- a test's arm
-pub first : (b : Bool) (x y : Chosen) → b ≡ true → x ≡ cond b x y
-first b x y e = rw e
-
-pub second : (b : Bool) (x y : Chosen) → b ≡ false → y ≡ cond b x y
-second b x y e = rw e
-
 -- an array of one value
 pub all-same : (m v : ℕ) → replicate m v ≡ replicate (length (replicate m v)) v
 all-same m v = ap (λ (k : ℕ). replicate k v) (sym (length-replicate m v))

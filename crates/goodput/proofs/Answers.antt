@@ -1,6 +1,5 @@
 -- What is known where nothing is refused, and that the answer is then the rules' best depth. Assumes nothing.
 use mathlib.Core.Path.{_≡_, refl, sym, ap, _∙_}
-use mathlib.Core.Bool.{Bool, true, false, _&&_}
 use mathlib.Core.List.{List, [], _∷_}
 use Prim.Native.Nat.{ℕ, _+_, _-_, _*_, _≤_, _<_, min}
 use native.Mathlib.Omega.{arith}
@@ -8,7 +7,7 @@ use borrow.Author.Tests.{leb-true}
 use lib.Dec.{leb}
 use lib.ListN.{length, take, drop, replicate, length-take}
 use lib.Ieee.{Float}
-use Rattle.float.proofs.Classes.{clash}
+use Rattle.laws.proofs.Both.{both}
 use Rattle.speculative.specs.Drafter.{inputsRefusal, loadedAt}
 use Rattle.speculative.specs.declared.drafter.Rates.{Rates}
 use Rattle.speculative.specs.declared.drafter.DrafterCost.{DrafterCost}
@@ -27,10 +26,6 @@ use Rattle.goodput_judges.proofs.Judges.{zero-of, Sized, sizes-passed, Lent, in
 use Rattle.goodput_judges.proofs.Stages.{stages-none}
 use Rattle.goodput.proofs.Depths.{refused-as, found-as}
 use Rattle.depth_laws.proofs.Domain.{expected-clear, chains-clear, over-best}
-
-both : (a b : Bool) → (a && b) ≡ true → (a ≡ true) × (b ≡ true)
-both true b h = (refl, h)
-both false b h = clash h
 
 -- the first gamma + 1 of as many or more
 front : (gamma : ℕ) (xs : List Float) → gamma < length xs → length (take (gamma + 1) xs) ≡ gamma + 1

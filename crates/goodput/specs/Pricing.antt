@@ -16,8 +16,3 @@ costUnless (suc refusal) x = Refused (suc refusal)
 
 unfoldable pub costOf : DrafterCost → ℕ → ℕ → Rates → Float → List Float → Cost
 costOf kind g n rates verify loaded = costUnless (costRefusal kind g n rates verify loaded) (totalCost kind n rates (loadedAt kind loaded n) g verify)
-
--- the refusal number of each answer; 0 where there is a cost
-abbrev pub costNumber : Cost → ℕ
-costNumber (Seconds x) = 0
-costNumber (Refused number) = number

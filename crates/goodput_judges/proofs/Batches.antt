@@ -1,6 +1,6 @@
 -- What is refused of a batch's chains: each law is one way out. Assumes nothing.
-use mathlib.Core.Path.{_≡_, refl}
-use mathlib.Core.Bool.{Bool, true, false, _&&_, cond}
+use mathlib.Core.Path.{_≡_}
+use mathlib.Core.Bool.{Bool, cond}
 use mathlib.Core.List.{List}
 use Prim.Native.Nat.{ℕ, _+_, _*_, _≤_, _<_}
 use native.Mathlib.Omega.{arith}
@@ -8,12 +8,9 @@ use borrow.Author.Tests.{le-leb, lt-leb}
 use lib.Dec.{leb}
 use lib.ListN.{length}
 use lib.Ieee.{Float}
+use Rattle.laws.proofs.Both.{and-false}
 use Rattle.chains.specs.Expected.{areChains}
 use Rattle.goodput_judges.specs.Refusals.{chainsRefusal}
-
-and-false : (a : Bool) → (a && false) ≡ false
-and-false true = refl
-and-false false = refl
 
 module _ (slots : List Float) (lengths : List ℕ) (gamma room : ℕ) where
   pub deep : 64 < gamma → 11 ≡ chainsRefusal slots lengths gamma room

@@ -8,17 +8,15 @@ use borrow.Author.Tests.{le-leb, lt-leb, leb-true}
 use lib.Dec.{leb}
 use lib.ListN.{length, take}
 use lib.Ieee.{Float}
+use Rattle.refusals.proofs.First.{first-zero}
+use Rattle.laws.proofs.Both.{and-false}
 use Rattle.speculative.specs.Acceptance.{firstOf}
 use Rattle.acceptance.specs.Acceptance.{modelRefusal}
 use Rattle.acceptance.specs.declared.AcceptanceModel.{AcceptanceModel}
 use Rattle.chains.specs.Tests.{allOf, isAccepted}
 use Rattle.goodput_judges.specs.Refusals.{modelValuesRefusal, bankSizesRefusal, bankValuesRefusal}
-use Rattle.goodput_judges.proofs.Judges.{first-given, first-none, first-zero, zero-of}
+use Rattle.goodput_judges.proofs.Judges.{first-given, first-none, zero-of}
 use Rattle.goodput_judges.proofs.Stages.{beyond, within, stage-one, stage-left, stage-right, stage-rest, stages-none}
-
-and-false : (a : Bool) → (a && false) ≡ false
-and-false true = refl
-and-false false = refl
 
 -- ---- of a model
 module _ (model : AcceptanceModel) (positions : List Float) (gamma n room : ℕ) where

@@ -8,6 +8,8 @@ use native.Mathlib.Omega.{arith}
 use borrow.Author.Tests.{le-leb, lt-leb, leb-true}
 use lib.Dec.{leb}
 use lib.Ieee.{Float}
+use Rattle.refusals.proofs.First.{first-zero}
+use Rattle.laws.proofs.Both.{and-false}
 use Rattle.speculative.specs.Acceptance.{firstOf}
 use Rattle.speculative.specs.Drafter.{drafterRefusal, loadedRefusal, isStreamed, inputsRefusal, costRefusal, timeUnless, timeRefusal, passSeconds, loadedAt, draftPass}
 use Rattle.speculative.specs.declared.drafter.Rates.{Rates}
@@ -25,17 +27,8 @@ pub first-none : (a b : ℕ) → a ≤ 0 → b ≡ firstOf a b
 first-none zero b h = refl
 first-none (suc a) b h = absurd (not-suc-le-zero h)
 
--- where neither is given
-pub first-zero : (a b : ℕ) → firstOf a b ≡ 0 → (a ≡ 0) × (b ≡ 0)
-first-zero zero b h = (refl, h)
-first-zero (suc a) b h = absurd (let w : ⊥ = omega arith in w)
-
 pub zero-of : (r a : ℕ) → r ≡ a → r ≤ 0 → a ≡ 0
 zero-of r a e h = omega arith
-
-and-false : (a : Bool) → (a && false) ≡ false
-and-false true = refl
-and-false false = refl
 
 -- ---- the drafter and the sizes
 module _ (kind : DrafterCost) (gamma n r : ℕ) (e : r ≡ drafterRefusal kind) where

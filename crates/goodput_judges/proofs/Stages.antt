@@ -8,16 +8,14 @@ use borrow.Author.Tests.{le-leb, lt-leb}
 use lib.Dec.{leb}
 use lib.ListN.{length, take}
 use lib.Ieee.{Float}
+use Rattle.refusals.proofs.First.{first-zero}
+use Rattle.laws.proofs.Both.{and-false}
 use Rattle.speculative.specs.Acceptance.{firstOf}
 use Rattle.speculative.specs.Drafter.{inputsRefusal}
 use Rattle.speculative.specs.declared.drafter.Rates.{Rates}
 use Rattle.speculative.specs.declared.drafter.DrafterCost.{DrafterCost}
 use Rattle.goodput_judges.specs.Refusals.{sizesRefusal, isWeighed, isPricedBatch, depthRefusal, aggregateRefusal}
-use Rattle.goodput_judges.proofs.Judges.{first-given, first-none, first-zero}
-
-and-false : (a : Bool) → (a && false) ≡ false
-and-false true = refl
-and-false false = refl
+use Rattle.goodput_judges.proofs.Judges.{first-given, first-none}
 
 abbrev pub staged : ℕ → Bool → Bool → ℕ → ℕ
 staged a p q i = firstOf a (firstOf (cond (p && q) 0 16) i)

@@ -9,6 +9,7 @@ use lib.Dec.{leb}
 use lib.ListN.{length, getD, take, length-take}
 use lib.Seq.{getD-take, take-take}
 use lib.Ieee.{Float, nan}
+use Rattle.refusals.proofs.First.{first-zero}
 use Rattle.bank.specs.Acceptance.{sizesRefusal, entryOf, curveEntry, expectedAccepted}
 use Rattle.bank.specs.declared.Expected.the-variants.{Value}
 use Rattle.acceptance.specs.Acceptance.{expectedTo, expectedAccepted as modelAccepted}
@@ -22,7 +23,6 @@ use Rattle.chains.specs.Tests.{isAccepted}
 use Rattle.chains.specs.Expected.{expectedOver}
 use Rattle.chains.proofs.Tested.{all-says}
 use Rattle.goodput_judges.specs.Refusals.{chainsRefusal, modelValuesRefusal, bankSizesRefusal, bankValuesRefusal, depthRefusal, aggregateRefusal}
-use Rattle.goodput_judges.proofs.Judges.{first-zero}
 use Rattle.goodput_judges.proofs.Budgets.{model-passed, bank-passed}
 use Rattle.goodput.specs.Depth.{depthAnswer, aggregateAnswer}
 use Rattle.goodput.proofs.Batches.{fits}

@@ -4,7 +4,7 @@ use mathlib.Core.Path.{_≡_, refl, sym, ap, _∙_, subst}
 use mathlib.Core.Bool.{Bool, true, false, cond, _&&_}
 use mathlib.Core.List.{List, [], _∷_}
 use Prim.Native.Nat.{ℕ, zero, suc, _+_, _-_, _*_, _^_, _≤_, _<_, min}
-use native.Mathlib.Nat.{le-trans, le-of-eq, zero-lt-suc, mul-assoc, mul-left-comm, mul-le-mul-right, mul-pos, zero-mul}
+use native.Mathlib.Nat.{le-trans, le-of-eq, zero-lt-suc, mul-assoc, mul-left-comm, mul-le-mul-right, mul-pos}
 use native.Mathlib.Numerals.{add-one}
 use native.Mathlib.Omega.{arith}
 use borrow.Author.Tests.{ltb-false, le-ltb, leb-true}
@@ -14,24 +14,23 @@ use lib.ListN.{length, getD, take, drop, replicate, length-take}
 use lib.Seq.{getD-take}
 use lib.Ieee.{Float, nan, inf, fin, binary64, up, down, round, sum, add, mul, lt, isNan, ofBits, ofInt}
 use lib.Ieee.Fits.{down-pos}
+use Rattle.decimals.proofs.Rounding.{whole-held}
+use Rattle.depth_laws.proofs.Clear.{left-zero}
+use Rattle.laws.proofs.Both.{both}
 use Rattle.float.specs.Floats.{plus, times, f0, f1, whole, isClear}
-use Rattle.float.proofs.Classes.{clash}
+use Rattle.float.proofs.Classes.{clash, not-negative}
 use Rattle.float.proofs.Ranges.{in-range, range-clear, range-high, signed-no-nan, signed-low, signed-high}
 use Rattle.acceptance.specs.Acceptance.{aD, modelRefusal, productTo, expectedTo}
 use Rattle.acceptance.specs.declared.AcceptanceModel.{AcceptanceModel}
 use Rattle.acceptance.proofs.Judged.{value-in-range}
-use Rattle.switching.proofs.Stalls.{UpTo, up-to-finite, zero-up-to, rounded, whole-held, sum-up-to}
+use Rattle.switching.proofs.Stalls.{UpTo, up-to-finite, zero-up-to, rounded, sum-up-to}
 use Rattle.chains.specs.Tests.{allOf, isSurvival, isAccepted, mostAccepted, isExpected, mostExpected}
 use Rattle.chains.specs.Expected.{addRunning, withChain, sumsWith, expectedOver, areChains}
 use Rattle.budgets.specs.Budget.{valuesFrom, modelValues, bankValues}
 use Rattle.chains.proofs.Tested.{all-says}
 use Rattle.goodput_judges.specs.Refusals.{chainsRefusal, modelValuesRefusal, bankValuesRefusal}
 use Rattle.goodput_judges.proofs.Budgets.{model-passed, bank-passed}
-use Rattle.goodput_laws.proofs.Survivals.{not-negative, positive-low, negative-zero, times-low}
-
-both : (a b : Bool) → (a && b) ≡ true → (a ≡ true) × (b ≡ true)
-both true b h = (refl, h)
-both false b h = clash h
+use Rattle.goodput_laws.proofs.Survivals.{positive-low, negative-zero, times-low}
 
 -- ---- bounds of floats
 pub up-to-more : (p q : ℕ) (x : Float) → p ≤ q → UpTo p x → UpTo q x
@@ -64,9 +63,6 @@ times-up-to p q (fin false m e) (fin false n d) s h k =
     (product-fits (m * up e) (n * up d) p q (down e) (down d) h k) (whole-held binary64 (p * q) s)
 
 -- ---- a survival added, which may be minus zero
-pub zero-times : (a b : ℕ) → a ≡ 0 → a * b ≡ 0
-zero-times a b e = ap (λ (x : ℕ). x * b) e ∙ zero-mul b
-
 nothing-taken : (p a b c : ℕ) → 0 < c → b ≡ 0 → a ≤ p * c → p < 2 ^ 53 → UpTo p (cond (ltb a b) (round binary64 true (b - a) c) (round binary64 false (a - b) c))
 nothing-taken p a b c C e h s =
     let k : (a - 0) * 1 ≤ p * c = omega arith in
@@ -81,7 +77,7 @@ zero-added p nan n d s h z = absurd h
 zero-added p (inf t) n d s h z = absurd h
 zero-added p (fin true m e) n d s h z = absurd h
 zero-added p (fin false m e) n d s h z =
-    nothing-taken p (m * up e * down d) (n * up d * down e) (down e * down d) (mul-pos (down-pos e) (down-pos d)) (zero-times (n * up d) (down e) z) (scaled (m * up e) p (down e) (down d) h) s
+    nothing-taken p (m * up e * down d) (n * up d * down e) (down e * down d) (mul-pos (down-pos e) (down-pos d)) (left-zero (n * up d) (down e) z) (scaled (m * up e) p (down e) (down d) h) s
 
 pub survival-added : (p : ℕ) (x y : Float) → p + 1 < 2 ^ 53 → UpTo p x → isNan y ≡ false → lt y f0 ≡ false → lt f1 y ≡ false → UpTo (p + 1) (plus x y)
 unfolding isNan lt ofBits

@@ -15,6 +15,10 @@ use lib.Ieee.Fits.{and-l, and-r, down-pos, reach, mul-fits}
 use lib.Ieee.Exact.{HasValue, round-exact}
 use lib.Ieee.Order.{round-mono}
 use lib.Ieee.Scale.{round-same}
+use Rattle.depth_laws.proofs.Clear.{left-zero}
+use Rattle.bank.proofs.Bounds.{le-either}
+use Rattle.float.proofs.Rounded.{round-clear}
+use Rattle.laws.proofs.Both.{both}
 use Rattle.float.specs.Floats.{times, f0, f1, clampUnit, isFinite, isClear}
 use Rattle.float.proofs.Classes.{clash, finite-no-nan}
 use Rattle.float.proofs.Ranges.{signed-no-nan, signed-low, signed-high}
@@ -23,12 +27,7 @@ use Rattle.chains.specs.Scan.{scan}
 use Rattle.chains.specs.Tests.{allOf, isSurvival}
 use Rattle.chains.specs.Survival.{survive, products, survivalChain}
 use Rattle.goodput_judges.specs.Refusals.{survivalRefusal}
-use Rattle.depth_laws.proofs.Clear.{round-clear}
-use Rattle.goodput_laws.proofs.Survivals.{le-either, one-survives, zero-survives, positive-low, negative-zero, left-zero, right-zero, product-held}
-
-both : (a b : Bool) → (a && b) ≡ true → (a ≡ true) × (b ≡ true)
-both true b h = (refl, h)
-both false b h = clash h
+use Rattle.goodput_laws.proofs.Survivals.{one-survives, zero-survives, positive-low, negative-zero, right-zero, product-held}
 
 -- ---- what a format holds is rounded to itself
 module _ (f : Format) (m : ℕ) (small : m < 2 ^ prec f) where

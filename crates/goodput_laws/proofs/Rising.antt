@@ -1,6 +1,6 @@
 -- Where every chain reaches gamma, what is expected of a batch never falls from a depth to the next: a running sum of survivals does not fall, and rounded addition keeps the order. Assumes nothing.
 use mathlib.Core.Path.{_≡_, refl, sym, ap, _∙_, subst}
-use mathlib.Core.Bool.{Bool, true, false, cond, _&&_}
+use mathlib.Core.Bool.{true, false, cond, _&&_}
 use mathlib.Core.List.{List, [], _∷_}
 use Prim.Native.Nat.{ℕ, zero, suc, _+_, _-_, _*_, _^_, _≤_, _<_, min}
 use native.Mathlib.Nat.{le-trans, le-of-eq, mul-assoc, mul-comm, mul-left-comm, mul-right-comm, add-mul, mul-le-mul-right, mul-pos, le-of-mul-le-mul-right, zero-mul}
@@ -13,19 +13,18 @@ use lib.Ieee.{Float, nan, inf, fin, binary64, up, down, round, sum, add, lt, le,
 use lib.Ieee.Fits.{down-pos, add-fits}
 use lib.Ieee.Exact.{HasValue}
 use lib.Ieee.Order.{round-mono}
+use Rattle.depth_laws.proofs.Clear.{left-zero}
+use Rattle.bank.proofs.Bounds.{le-either}
+use Rattle.laws.proofs.Both.{both}
 use Rattle.float.specs.Floats.{plus, f0, f1}
 use Rattle.float.proofs.Classes.{clash}
 use Rattle.float.proofs.Ranges.{signed-no-nan, signed-low, signed-high}
 use Rattle.switching.proofs.Stalls.{UpTo, zero-up-to, sum-up-to}
 use Rattle.chains.specs.Tests.{allOf, isSurvival}
 use Rattle.chains.specs.Expected.{addRunning, sumsWith, expectedOver, areChains}
-use Rattle.goodput_laws.proofs.Survivals.{le-either, negative-zero}
+use Rattle.goodput_laws.proofs.Survivals.{negative-zero}
 use Rattle.goodput_laws.proofs.Falling.{exact}
-use Rattle.goodput_laws.proofs.Bounds.{AllUpTo, running-up-to, survival-added, up-to-more, all-zeros, zero-times}
-
-both : (a b : Bool) → (a && b) ≡ true → (a ≡ true) × (b ≡ true)
-both true b h = (refl, h)
-both false b h = clash h
+use Rattle.goodput_laws.proofs.Bounds.{AllUpTo, running-up-to, survival-added, up-to-more, all-zeros}
 
 -- ---- finite floats with a clear sign bit, of which the first is at most the second
 abbrev pub AtMost : Float → Float → Type 0
@@ -99,7 +98,7 @@ zero-least : (e : ℤ) (r : Float) (q : ℕ) → UpTo q r → AtMost (fin false 
 zero-least e nan q u = absurd u
 zero-least e (inf s) q u = absurd u
 zero-least e (fin true p d) q u = absurd u
-zero-least e (fin false p d) q u = le-trans (le-of-eq (zero-times (0 * up e) (down d) (zero-mul (up e)))) (omega arith)
+zero-least e (fin false p d) q u = le-trans (le-of-eq (left-zero (0 * up e) (down d) (zero-mul (up e)))) (omega arith)
 
 more : (s y E D : ℕ) → s * (E * D) ≤ (s * D + y * E) * E
 more s y E D =
@@ -124,7 +123,7 @@ taken-none m e A B C q f c z h u =
 minus : (m : ℕ) (e : ℤ) (n : ℕ) (d : ℤ) (q : ℕ) → T (fits binary64 (fin false (suc m) e)) → n * up d ≡ 0 → UpTo q (plus (fin false (suc m) e) (fin true n d)) → AtMost (fin false (suc m) e) (plus (fin false (suc m) e) (fin true n d))
 unfolding add sum
 minus m e n d q f z w =
-    taken-none m e (suc m * up e * down d) (n * up d * down e) (down e * down d) q f (mul-pos (down-pos e) (down-pos d)) (zero-times (n * up d) (down e) z) (same (suc m * up e) (down e) (down d)) w
+    taken-none m e (suc m * up e * down d) (n * up d * down e) (down e * down d) q f (mul-pos (down-pos e) (down-pos d)) (left-zero (n * up d) (down e) z) (same (suc m * up e) (down e) (down d)) w
 
 plain : (m : ℕ) (e : ℤ) (n : ℕ) (d : ℤ) (q : ℕ) → T (fits binary64 (fin false (suc m) e)) → UpTo q (plus (fin false (suc m) e) (fin false n d)) → AtMost (fin false (suc m) e) (plus (fin false (suc m) e) (fin false n d))
 unfolding add sum

@@ -1,52 +1,32 @@
 -- A chain made from finite confidences holds survivals at every slot, 0 to 1 or minus zero, so that a gate takes it. Assumes nothing.
 use mathlib.Core.Path.{_≡_, refl, sym, ap, _∙_, subst}
-use mathlib.Core.Bool.{Bool, true, false, cond, _&&_, _||_}
+use mathlib.Core.Bool.{Bool, true, false, cond}
 use mathlib.Core.List.{List, [], _∷_, _++_}
 use Prim.Native.Nat.{ℕ, zero, suc, _+_, _-_, _*_, _≤_, _<_}
-use native.Mathlib.Nat.{mul-pos, zero-mul, zero-lt-suc, le-trans, le-of-eq, le-of-lt, mul-le-mul-left, mul-le-mul-right, mul-comm}
+use native.Mathlib.Nat.{mul-pos, zero-mul, zero-lt-suc, le-trans, mul-le-mul-left, mul-le-mul-right, mul-comm}
 use native.Mathlib.Omega.{arith}
-use borrow.Author.Tests.{ltb-false, ltb-true, le-ltb, eqb-true}
-use lib.Dec.{T, leb, ltb, eqb}
+use borrow.Author.Tests.{ltb-false, le-ltb}
+use lib.Dec.{T, leb}
 use lib.IntN.{ℤ, pos}
 use lib.ListN.{take, replicate}
 use lib.Ieee.{Float, nan, inf, fin, binary64, up, down, round, mul, lt, le, eq, isNan, ofBits, unlike}
 use lib.Ieee.Fits.{down-pos}
 use lib.Ieee.Order.{round-mono}
 use lib.Ieee.Scale.{round-same}
+use Rattle.bank.proofs.Bounds.{le-either}
+use Rattle.depth_laws.proofs.Clear.{left-zero}
+use Rattle.float.proofs.Rounded.{round-clear}
+use Rattle.laws.proofs.Both.{both}
 use Rattle.float.specs.Floats.{times, f0, f1, clampUnit, isFinite, isClear}
-use Rattle.float.proofs.Classes.{clash, finite-no-nan, clear-no-nan}
+use Rattle.float.proofs.Classes.{clash, finite-no-nan, clear-no-nan, not-negative}
 use Rattle.float.proofs.Ranges.{in-signed, signed-no-nan, signed-low, signed-high}
 use Rattle.float.proofs.Clamped.{unit-signed}
 use Rattle.chains.specs.Scan.{scan}
 use Rattle.chains.specs.Tests.{allOf, isSurvival}
 use Rattle.chains.specs.Survival.{survive, products, survivalChain}
 use Rattle.goodput_judges.specs.Refusals.{survivalRefusal}
-use Rattle.depth_laws.proofs.Clear.{round-clear}
-
-both : (a b : Bool) → (a && b) ≡ true → (a ≡ true) × (b ≡ true)
-both true b h = (refl, h)
-both false b h = clash h
 
 -- ---- a clear float that is at most 1 is a survival
-none-below : (x d : ℕ) → 0 * d ≤ x
-none-below x d = omega arith
-
-pub not-negative : (x : Float) → isClear x ≡ true → lt x f0 ≡ false
-unfolding lt isClear ofBits
-not-negative nan c = refl
-not-negative (inf true) c = clash c
-not-negative (inf false) c = refl
-not-negative (fin true m e) c = clash c
-not-negative (fin false m e) c = le-ltb (m * up e * 1) (0 * 1 * down e) (none-below (m * up e * 1) (down e))
-
-pub le-either : (a b : ℕ) → T (ltb a b || (eqb a b && true)) → a ≤ b
-le-either a b t = go (ltb a b) (eqb a b) (ltb-true a b) (eqb-true a b) t
-  where
-    go : (x y : Bool) → (x ≡ true → a < b) → (y ≡ true → a ≡ b) → T (x || (y && true)) → a ≤ b
-    go true y p q u = le-of-lt (p refl)
-    go false true p q u = le-of-eq (q refl)
-    go false false p q u = absurd u
-
 not-above : (x : Float) → isClear x ≡ true → T (le x (fin false 1 (pos 0))) → lt (fin false 1 (pos 0)) x ≡ false
 unfolding lt eq le isClear
 not-above nan c t = refl
@@ -111,9 +91,6 @@ negative-zero m e h = let k : m * up e * 1 + 0 * 1 * down e ≤ 0 = ltb-false 0 
 
 pub times-low : (a b c d : ℕ) → a ≤ c → b ≤ d → a * b ≤ c * d
 times-low a b c d h k = le-trans (mul-le-mul-right b h) (mul-le-mul-left c k)
-
-pub left-zero : (a b : ℕ) → a ≡ 0 → a * b ≡ 0
-left-zero a b e = ap (λ (x : ℕ). x * b) e ∙ zero-mul b
 
 pub right-zero : (a b : ℕ) → b ≡ 0 → a * b ≡ 0
 right-zero a b e = mul-comm a b ∙ left-zero b a e

@@ -16,7 +16,7 @@ frontier-set [] k x = refl
 frontier-set (y ∷ s) zero x = refl
 frontier-set (y ∷ s) (suc k) x = ap (λ (f : Frontier). headOf y ∷ f) (frontier-set s k x)
 
-total-set : (s : Stacks) (k : ℕ) (x : List ℕ) → k < length s → total (set s k x) + length (getD s k []) ≡ total s + length x
+pub total-set : (s : Stacks) (k : ℕ) (x : List ℕ) → k < length s → total (set s k x) + length (getD s k []) ≡ total s + length x
 total-set [] k x h = absurd (omega arith)
 total-set (y ∷ s) zero x h = omega arith
 total-set (y ∷ s) (suc k) x h = omega (arith, total-set s k x (omega arith))

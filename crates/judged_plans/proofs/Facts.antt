@@ -1,6 +1,6 @@
 -- What a plan that is not refused has: what its act asks for, and that what it decides is what the rules decide. Assumes nothing.
 use mathlib.Core.Path.{_≡_, refl, sym, ap, _∙_}
-use mathlib.Core.Bool.{Bool, true, false, _&&_, cond}
+use mathlib.Core.Bool.{Bool, true, false, cond}
 use mathlib.Core.List.{List}
 use Prim.Native.Nat.{ℕ, zero, suc, _≤_}
 use native.Mathlib.Omega.{arith}
@@ -8,6 +8,7 @@ use lib.Dec.{leb}
 use lib.ListN.{length, take}
 use lib.Seq.{length-take-le}
 use borrow.Author.Tests.{leb-true}
+use Rattle.laws.proofs.Both.{both}
 use Rattle.float.proofs.Classes.{clash}
 use Rattle.refusals.specs.Refusals.{firstOf}
 use Rattle.numeral.specs.Moment.{secondOf}
@@ -37,10 +38,6 @@ use Rattle.planning.proofs.Batches.{all-indexed}
 use Rattle.planning.proofs.Prices.{force-long}
 
 -- ---- tests
-both : (x y : Bool) → (x && y) ≡ true → (x ≡ true) × (y ≡ true)
-both true y h = (refl, h)
-both false y h = clash h
-
 not-refused : (b : Bool) (n : ℕ) → cond b 0 (suc n) ≡ 0 → b ≡ true
 not-refused true n h = refl
 not-refused false n h = let w : ⊥ = omega arith in absurd w

@@ -10,7 +10,7 @@ use Rattle.ledger_laws.specs.Model.{Change, planned, decided, cleared, C
 use Rattle.ledger_laws.specs.Encode.{encode}
 use Rattle.ledger_laws.specs.Run.{run}
 use Rattle.ledger_laws.proofs.Given.{Sound}
-use Rattle.ledger_laws.proofs.Theorem.{afresh, reached-nothing, demand-3}
+use Rattle.ledger_laws.proofs.Theorem.{afresh, reached-nothing, demand-3, less-sound}
 
 -- the call that makes a change, and the calls that make changes in their order, the oldest first
 unfoldable pub callOf : Change → Call
@@ -33,19 +33,13 @@ made-again (planned p) cs left s = rw (s .1)
 made-again (decided p w f) cs left s = rw (s .1, s .2)
 made-again (cleared w) cs left s = rw (s .0)
 
-sound-rest : (c : Change) (cs : List Change) → Sound (c ∷ cs) → Sound cs
-unfolding Sound
-sound-rest (planned p) cs s = s .2
-sound-rest (decided p w f) cs s = s .3
-sound-rest (cleared w) cs s = s .1
-
 stand-again : (cs : List Change) → Sound cs → after (remade cs) nothingStands ≡ record { changes = cs; left = min (length cs) changesMost }
 unfolding remade after
 stand-again [] s = refl
 stand-again (c ∷ cs) s =
     let m : min (min (length cs) changesMost + 1) changesMost ≡ min (suc (length cs)) changesMost = omega arith in
     after-more (remade cs) (callOf c) nothingStands
-    ∙ ap (step (callOf c)) (stand-again cs (sound-rest c cs s))
+    ∙ ap (step (callOf c)) (stand-again cs (less-sound c cs s))
     ∙ made-again c cs (min (length cs) changesMost) s
     ∙ ap (λ (n : ℕ). record { changes = c ∷ cs; left = n }) m
 
@@ -67,7 +61,7 @@ in-one (cleared w) cs s = tt
 in-all : (cs : List Change) → Sound cs → InDomain (remade cs)
 unfolding InDomain remade
 in-all [] s = tt
-in-all (c ∷ cs) s = in-more (remade cs) (callOf c) (in-all cs (sound-rest c cs s)) (in-one c cs s)
+in-all (c ∷ cs) s = in-more (remade cs) (callOf c) (in-all cs (less-sound c cs s)) (in-one c cs s)
 
 -- after any calls within the bounds, the standing changes made anew over an empty storage stand again, and give its words: the same seconds and the same
 -- workers. Only the withdrawals available may be more, since each change makes one

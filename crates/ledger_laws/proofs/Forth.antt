@@ -195,7 +195,7 @@ first-zero x y h = by-test (eqb x 0) (λ l. eqb-true x 0 l) (λ l. absurd (not-b
 pub then-zero : (x y : ℕ) → eqb (orElse x y) 0 ≡ true → y ≡ 0
 then-zero x y h = by-test (eqb x 0) (λ l. eqb-true y 0 (rw l at h)) (λ l. absurd (not-both (eqb x 0) (rw l at h) l))
 
-read-back : (o : Option Switching) → recordFrom (pastFrom o) ≡ o
+pub read-back : (o : Option Switching) → recordFrom (pastFrom o) ≡ o
 unfolding recordFrom
 read-back none = refl
 read-back (some r) = refl

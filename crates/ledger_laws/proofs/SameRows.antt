@@ -3,13 +3,9 @@ use mathlib.Core.Path.{_≡_, refl, sym, ap, _∙_}
 use mathlib.Core.Bool.{Bool, true, false}
 use mathlib.Core.List.{List, [], _∷_}
 use mathlib.Core.Option.{none, some}
-use Prim.Native.Nat.{ℕ}
-use native.Mathlib.Omega.{arith}
+use Rattle.ledger_rows.proofs.Maps.{none-some}
 use Rattle.ledger_rows.specs.Map.{Order, at, Above, Ascending}
 use Rattle.ledger_rows.proofs.Tests.{by-test, not-both}
-
-none-some : {U : Type 0} (u : U) → none ≡ some u → ⊥
-none-some u e = let z : _≡_ {A = ℕ} 0 1 = cc in omega arith
 
 module _ {K U : Type 0} (less same : K → K → Bool) (ord : Order less same) where
   -- the first row is held

@@ -50,7 +50,7 @@ reached-collect : (w : Worker) (s : Standing) → Reached s → Reached (step (c
 unfolding step Sound
 reached-collect w s r = by-test (isHeld (recordOf w (s .changes))) (λ l. rw l (more-left (cleared w) s (l, r .sound) r)) (λ l. rw l r)
 
-less-sound : (c : Change) (cs : List Change) → Sound (c ∷ cs) → Sound cs
+pub less-sound : (c : Change) (cs : List Change) → Sound (c ∷ cs) → Sound cs
 unfolding Sound
 less-sound (planned p) cs s = s .2
 less-sound (decided p w f) cs s = s .3

@@ -3,7 +3,7 @@ use mathlib.Core.Path.{_≡_, refl, sym, ap, _∙_, subst}
 use mathlib.Core.Bool.{Bool, true, false, cond}
 use mathlib.Core.List.{List, [], _∷_, _++_, map}
 use Prim.Native.Nat.{ℕ, zero, suc, _+_, _-_, _≤_, _<_, min, suc-le-suc, zero-le}
-use native.Mathlib.Nat.{not-suc-le-zero, le-trans, le-of-eq}
+use native.Mathlib.Nat.{le-trans, le-of-eq}
 use native.Mathlib.Omega.{arith}
 use borrow.Author.Tests.{leb-false, eqb-false}
 use lib.Dec.{leb, eqb}
@@ -13,7 +13,7 @@ use lib.Ieee.{Float}
 use Rattle.text.specs.Lines.{lines, firstLine, afterLine}
 use Rattle.text.specs.Fields.{fields}
 use Rattle.blocks.specs.Blocks.{allAscii}
-use Rattle.text.proofs.Walk.{line-first}
+use Rattle.text.proofs.Walk.{line-first, some-text}
 use Rattle.cost_rows.specs.Table.{Row, table, counted, over, Written}
 use Rattle.cost_rows.specs.Order.{sorted}
 use Rattle.cost_rows.specs.Prune.{kept}
@@ -75,10 +75,6 @@ lines-facts room (header ∷ rest) rows e = go (headerRight (fields header)) e
     go : (z : Bool) → cond z (judgeRows room rest 2 0) (Refused 3 1) ≡ Table rows → (0 < suc (length rest)) × Facts room 0 (rowsOf rest) rows
     go true f = (suc-le-suc zero-le, rows-facts room rest 2 0 rows zero-le zero-le f)
     go false f = absurd (refused-no 3 1 rows f)
-
-some-text : (s : List ℕ) → 0 < length (lines s) → 0 < length s
-some-text [] h = absurd (not-suc-le-zero h)
-some-text (b ∷ s) h = suc-le-suc zero-le
 
 -- a text that the judge takes for a table of so many rows
 pub accepted : (room : ℕ) (text : List ℕ) (rows : ℕ) → judged room text ≡ Table rows → (0 < length text) × Facts room 0 (rowsOf (drop 1 (lines text))) rows

@@ -11,6 +11,7 @@ use lib.Ieee.Exact.{HasValue}
 use lib.Ieee.Order.{round-mono}
 use lib.Ieee.Scale.{grid, round-val, round-under}
 use lib.ListN.{length, getD}
+use Rattle.laws.proofs.Both.{both}
 use Rattle.text.specs.Fields.{fields}
 use Rattle.trimming.specs.Trim.{trimmed}
 use Rattle.float.specs.Floats.{f0}
@@ -25,7 +26,7 @@ use Rattle.decimals.proofs.Decimals.{Read, decimal-read}
 use Rattle.cost_rows.specs.Table.{Row}
 use Rattle.cost_rows.specs.Order.{earlier, insert, sorted}
 use Rattle.cost_rows.specs.Prune.{dropped, kept}
-use Rattle.cost_rows.proofs.Ordered.{test, and-left, and-right}
+use Rattle.cost_rows.proofs.Ordered.{test}
 use Rattle.cost_rows.specs.Lawful.{largest, inRange, allInRange}
 use Rattle.measured.specs.Line.{wholeAt, decimalAt, valuesRead, numbersRead, rowRead, lineRead}
 use Rattle.measured.specs.Fill.{rowOf, rowsOf}
@@ -100,7 +101,7 @@ line-range line = test (eqb (length (trimmed line)) 0) (λ p. rw p) (λ p. rw p 
 append-range : (a b : List Row) → allInRange a ≡ true → allInRange b ≡ true → allInRange (a ++ b) ≡ true
 unfolding allInRange
 append-range [] b e f = f
-append-range (r ∷ a) b e f = rw (and-left (inRange (r .seconds)) (allInRange a) e) (append-range a b (and-right (inRange (r .seconds)) (allInRange a) e) f)
+append-range (r ∷ a) b e f = rw (both (inRange (r .seconds)) (allInRange a) e .0) (append-range a b (both (inRange (r .seconds)) (allInRange a) e .1) f)
 
 rows-range : (lines : List (List ℕ)) → allInRange (rowsOf lines) ≡ true
 unfolding rowsOf allInRange
@@ -114,20 +115,20 @@ unfolding allInRange insert
 insert-range r [] e f = rw e
 insert-range r (s ∷ t) e f =
     test (earlier s r)
-    (λ g. rw (g, and-left (inRange (s .seconds)) (allInRange t) f) (insert-range r t e (and-right (inRange (s .seconds)) (allInRange t) f)))
+    (λ g. rw (g, both (inRange (s .seconds)) (allInRange t) f .0) (insert-range r t e (both (inRange (s .seconds)) (allInRange t) f .1)))
     (λ g. rw (g, e) f)
 
 sorted-range : (t : List Row) → allInRange t ≡ true → allInRange (sorted t) ≡ true
 unfolding allInRange sorted
 sorted-range [] f = refl
-sorted-range (r ∷ t) f = insert-range r (sorted t) (and-left (inRange (r .seconds)) (allInRange t) f) (sorted-range t (and-right (inRange (r .seconds)) (allInRange t) f))
+sorted-range (r ∷ t) f = insert-range r (sorted t) (both (inRange (r .seconds)) (allInRange t) f .0) (sorted-range t (both (inRange (r .seconds)) (allInRange t) f .1))
 
 kept-range : (t : List Row) → allInRange t ≡ true → allInRange (kept t) ≡ true
 unfolding allInRange kept
 kept-range [] f = refl
 kept-range (r ∷ t) f =
-    let ih = kept-range t (and-right (inRange (r .seconds)) (allInRange t) f) in
-    test (dropped r t) (λ e. rw e ih) (λ e. rw (e, and-left (inRange (r .seconds)) (allInRange t) f) ih)
+    let ih = kept-range t (both (inRange (r .seconds)) (allInRange t) f .1) in
+    test (dropped r t) (λ e. rw e ih) (λ e. rw (e, both (inRange (r .seconds)) (allInRange t) f .0) ih)
 
 pub loaded-range : (lines : List (List ℕ)) → allInRange (kept (sorted (rowsOf lines))) ≡ true
 loaded-range lines = kept-range (sorted (rowsOf lines)) (sorted-range (rowsOf lines) (rows-range lines))

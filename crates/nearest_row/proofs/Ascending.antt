@@ -9,9 +9,10 @@ use borrow.Author.Tests.{eqb-true, eqb-false, ltb-true, ltb-false, not-true}
 use lib.Dec.{T, ltb, eqb}
 use lib.ListN.{length, getD, drop}
 use lib.Ieee.{Float, nan}
+use Rattle.laws.proofs.Both.{both}
 use Rattle.cost_rows.specs.Table.{Row, zip}
 use Rattle.cost_rows.specs.Order.{before, earlier, falls, ordered}
-use Rattle.nearest_row.proofs.Rows.{rowAt, zip-next}
+use Rattle.cost_rows.proofs.Rows.{rowAt, zip-next}
 
 -- depth g and batch a do not come after depth h and batch b
 abbrev pub Upto : ℕ → ℕ → ℕ → ℕ → Type 0
@@ -55,21 +56,13 @@ to-before g a h b l m = go (before g a h b) refl
     go true e = refl
     go false e = let x = not-before g a h b e in let same : g ≡ h = omega (arith, x .0, l) in absurd (omega (arith, x .1 (sym same), m same))
 
-both-first : (x y : Bool) → x && y ≡ true → x ≡ true
-both-first true y h = refl
-both-first false y h = h
-
-both-second : (x y : Bool) → x && y ≡ true → y ≡ true
-both-second true y h = h
-both-second false y h = absurd (subst T (sym h) tt)
-
 first-two : (x y : Row) (t : List Row) → ordered (x ∷ y ∷ t) ≡ true → before (y .depth) (y .batch) (x .depth) (x .batch) ≡ false
 unfolding ordered falls earlier
-first-two x y t e = not-true _ (both-first _ _ e)
+first-two x y t e = not-true _ (both (not (falls x (y ∷ t))) (ordered (y ∷ t)) e .0)
 
 ordered-rest : (x : Row) (t : List Row) → ordered (x ∷ t) ≡ true → ordered t ≡ true
 unfolding ordered
-ordered-rest x t e = both-second (not (falls x t)) (ordered t) e
+ordered-rest x t e = both (not (falls x t)) (ordered t) e .1
 
 ordered-drop : (t : List Row) (i : ℕ) → ordered t ≡ true → ordered (drop i t) ≡ true
 ordered-drop t zero e = e

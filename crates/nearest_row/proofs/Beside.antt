@@ -8,6 +8,7 @@ use borrow.Author.Tests.{lt-ltb, eq-eqb, ltb-true, ltb-false, eqb-true, eqb-fals
 use lib.Dec.{T, ltb, eqb}
 use lib.ListN.{length, getD}
 use lib.Ieee.{Float, nan}
+use Rattle.laws.proofs.Both.{both}
 use Rattle.nearest_row.specs.declared.Nearest.the-variants.{Measured, Unmeasured}
 use Rattle.cost_rows.specs.Table.{zip}
 use Rattle.cost_rows.specs.Order.{before, ordered}
@@ -53,10 +54,6 @@ in-front batch y x h k = is-nearer batch y x (omega arith) (λ m. absurd (omega 
 
 alike : (batch y x : ℕ) → x ≡ y → nearer batch x y ≡ false
 alike batch y x e = not-nearer batch x y (omega arith, λ m. omega arith)
-
-both-second : (x y : Bool) → x && y ≡ true → y ≡ true
-both-second true y h = h
-both-second false y h = absurd (subst T (sym h) tt)
 
 module _ (n : ℕ) (d b : List ℕ) (s : List Float) (p : n ≤ length d) (q : n ≤ length b) (r : n ≤ length s) (o : ordered (zip n d b s) ≡ true) (batch g at : ℕ) (e : at ≡ rowsBefore g batch (zip n d b s)) where
   at-most : at ≤ n
@@ -138,7 +135,7 @@ module _ (n : ℕ) (d b : List ℕ) (s : List Float) (p : n ≤ length d) (q : n
 
   behind-nearer : (a : ℕ) → behindTaken batch g n d b at a ≡ true → nearer batch (getD b at 0) a ≡ true
   unfolding behindTaken
-  behind-nearer a t = both-second (ltb at n && eqb (getD d at 0) g) _ t
+  behind-nearer a t = both (ltb at n && eqb (getD d at 0) g) _ t .1
 
   behind-is : (a : ℕ) → behindTaken batch g n d b at a ≡ true → (at < n) × (getD d at 0 ≡ g)
   unfolding behindTaken

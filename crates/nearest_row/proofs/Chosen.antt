@@ -12,7 +12,7 @@ use Rattle.nearest_row.specs.declared.Nearest.{Nearest}
 use Rattle.nearest_row.specs.declared.Nearest.the-variants.{Measured, Unmeasured}
 use Rattle.cost_rows.specs.Table.{zip, ofDepth}
 use Rattle.nearest_row.specs.Lookup.{nearer, closer, closest, nearest}
-use Rattle.nearest_row.proofs.Rows.{zip-length}
+use Rattle.cost_rows.proofs.Rows.{zip-length}
 use Rattle.nearest_row.proofs.Near.{turn-here, turn-other, at-end}
 
 abbrev isNone : Nearest → Bool

@@ -11,7 +11,7 @@ use Rattle.nearest_row.specs.declared.Nearest.{Nearest}
 use lib.ListN.{length, getD, drop, drop-of-length-le}
 use native.Mathlib.Numerals.{add-one}
 use Rattle.cost_rows.specs.Table.{Row, zip, ofDepth}
-use Rattle.nearest_row.proofs.Rows.{rowAt, zip-next}
+use Rattle.cost_rows.proofs.Rows.{rowAt, zip-next}
 use Rattle.nearest_row.specs.Lookup.{apart, nearer, closer, closest}
 
 pub nearer-less : (batch a b : ℕ) → apart a batch < apart b batch → true ≡ nearer batch a b

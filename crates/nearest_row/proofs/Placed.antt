@@ -11,7 +11,7 @@ use lib.Ieee.{Float, nan}
 use Rattle.cost_rows.specs.Table.{Row, zip}
 use Rattle.cost_rows.specs.Order.{before, ordered}
 use Rattle.nearest_row.specs.Place.{rowsBefore}
-use Rattle.nearest_row.proofs.Rows.{rowAt, zip-next, zip-length}
+use Rattle.cost_rows.proofs.Rows.{rowAt, zip-next, zip-length}
 use Rattle.nearest_row.proofs.Ascending.{Upto, upto-trans, not-before, is-before, to-before, ascending}
 
 clash : {A : Type 0} (v : Bool) → v ≡ true → v ≡ false → A

@@ -4,14 +4,13 @@ use mathlib.Core.Path.{_≡_}
 use mathlib.Core.Bool.{true, false, cond}
 use mathlib.Core.List.{List, [], _∷_}
 use Prim.Native.Nat.{ℕ, zero, suc, _+_, _-_, _≤_, _<_, zero-le, suc-le-suc}
-use native.Mathlib.Nat.{le-trans, min-le-left}
+use native.Mathlib.Nat.{le-trans}
 use native.Mathlib.Omega.{arith}
 use borrow.Author.Tests.{leb-true}
 use lib.Dec.{leb, eqb}
 use lib.Ieee.{Float}
 use lib.ListN.{length, getD, length-take}
-use Rattle.acceptance.specs.declared.AcceptanceModel.{AcceptanceModel}
-use Rattle.acceptance.specs.declared.AcceptanceModel.the-variants.{Constant, PerPosition, Trace}
+use Rattle.asking.proofs.Passed.{under-le}
 use Rattle.speculative.specs.Drafter.{loadedAt}
 use Rattle.speculative.specs.declared.drafter.Rates.{Rates}
 use Rattle.speculative.specs.declared.drafter.DrafterCost.{DrafterCost}
@@ -32,7 +31,7 @@ use Rattle.ledger_laws.specs.Model.{Change, recordOf, Small}
 use Rattle.settings.specs.declared.Policy.{Policy}
 use Rattle.settings.specs.declared.Policy.the-variants.{Fixed, GoodputBudget, GatedBudget, GatedAggregate}
 use Rattle.settings.specs.declared.Settings.{Settings}
-use Rattle.settings.specs.Settings.{cappedBy, gammaUnder, gammaIn}
+use Rattle.settings.specs.Settings.{gammaIn}
 use Rattle.asking.specs.declared.Ask.{Ask}
 use Rattle.asking.specs.Asked.{Lent}
 use Rattle.asking.specs.Values.{heldOf, heldValued, policyValued}
@@ -62,20 +61,9 @@ priced-low kind n rates loaded es curve =
 
 -- ---- the depth that may be drafted to, and the curve up to it
 
-capped-low : (model : AcceptanceModel) (gamma depth : ℕ) → cappedBy model gamma depth ≤ gamma
-capped-low (Constant alpha) gamma depth = omega arith
-capped-low PerPosition gamma depth = omega arith
-capped-low Trace gamma depth = min-le-left gamma depth
-
-under-low : (policy : Policy) (model : AcceptanceModel) (gamma depth : ℕ) → gammaUnder policy model gamma depth ≤ gamma
-under-low Fixed model gamma depth = omega arith
-under-low GoodputBudget model gamma depth = capped-low model gamma depth
-under-low GatedBudget model gamma depth = capped-low model gamma depth
-under-low GatedAggregate model gamma depth = capped-low model gamma depth
-
 curve-low : (s : Settings) (a : Ask) (l : Lent) → s .gamma ≤ 64 → length (curveOf s a l) ≤ 65
 unfolding curveOf
-curve-low s a l h = simp length-take (omega (arith, under-low (s .policy) (s .model) (s .gamma) (a .depth)))
+curve-low s a l h = simp length-take (omega (arith, under-le (s .policy) (s .model) (s .gamma) (a .depth)))
 
 -- ---- a width of switching is a candidate, the target, or the one that was held
 
@@ -124,7 +112,7 @@ module _ (s : Settings) (a : Ask) (l : Lent) (small : s .gamma ≤ 64) where
   unfolding decidedBy
   by-policy Fixed past v = equal (s .gamma) small
   by-policy GoodputBudget past v = equal (best s a l (meanExpected (s .model) (l .positions) (l .bankCurve) (a .depth) (a .sequences) (gammaIn s (a .depth))) curve) (any-best _)
-  by-policy GatedBudget past v = wider (a .sequences) (gammaIn s (a .depth)) 64 _ (le-trans (under-low (s .policy) (s .model) (s .gamma) (a .depth)) small)
+  by-policy GatedBudget past v = wider (a .sequences) (gammaIn s (a .depth)) 64 _ (le-trans (under-le (s .policy) (s .model) (s .gamma) (a .depth)) small)
       (gate-narrow (a .sequences) (gammaIn s (a .depth)) (s .drafter) (a .rates) (l .loaded) curve (chainsIn (best s a l) s a l curve) target)
   by-policy GatedAggregate past v = aggregate past v
 

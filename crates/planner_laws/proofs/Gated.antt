@@ -1,12 +1,12 @@
 -- A gate gives each sequence one width, none above its chain's length. Assumes nothing.
 use mathlib.Core.Path.{_≡_, refl, _∙_}
-use mathlib.Core.Bool.{Bool, true, false, cond}
 use mathlib.Core.List.{List, [], _∷_}
 use Prim.Native.Nat.{ℕ, zero, suc, _+_, _-_, _*_, _≤_, _<_, zero-le, suc-le-suc}
 use native.Mathlib.Omega.{arith}
 use lib.Dec.{eqb}
 use lib.Ieee.{Float}
 use lib.ListN.{length, getD, length-set, replicate, length-replicate, getD-replicate}
+use Rattle.laws.proofs.Choices.{either}
 use Rattle.speculative.specs.Drafter.{isBlock, stillDrafting}
 use Rattle.speculative.specs.declared.drafter.Rates.{Rates}
 use Rattle.speculative.specs.declared.drafter.DrafterCost.{DrafterCost}
@@ -14,16 +14,12 @@ use Rattle.verdict.specs.Decision.{Sums, slotAt, removalAt}
 use Rattle.verdict.specs.Price.{verifyCost}
 use Rattle.slots.specs.Slots.{starts, upTo, downFrom, stacks, sum, survival}
 use Rattle.slots.specs.Gate.{Chosen}
-use Rattle.slots.proofs.Stacked.{starts-length}
+use Rattle.slots.proofs.Stacked.{starts-length, sum-starts}
 use Rattle.block.specs.Block.{addSlot, blockFrom, blockWidths, blockGate}
 use Rattle.trim.specs.Ragged.{marginOf, fullDraft, dropSlot, passOf, raggedWidths, raggedGate}
-use Rattle.gates_laws.proofs.Widths.{Under, under-lengths, greedy-keeps, block-weighed, block-widths, ragged-weighed, ragged-widths, fewer}
+use Rattle.gates_laws.proofs.Widths.{Under, under-lengths, greedy-keeps, block-weighed, block-widths, ragged-weighed, ragged-widths}
 use Rattle.gating.specs.Chains.{gateAt}
 use Rattle.deciding.specs.Deciding.{totalOf}
-
-either : (b : Bool) (P : Chosen → Type 0) (x y : Chosen) → P x → P y → P (cond b x y)
-either true P x y p q = p
-either false P x y p q = q
 
 -- ---- a width for each sequence
 
@@ -39,7 +35,7 @@ module _ (price : Float → Float) (chains : List Float) where
       → length (blockGate price chains lengths curve depth kind rates loaded .widths) ≡ length lengths
   unfolding blockGate blockWidths
   block-each lengths curve depth kind rates loaded =
-      either (eqb depth 0) (λ g. length (g .widths) ≡ length lengths) _ _ (length-replicate {A = ℕ} (length lengths) 0) (from-each depth _ lengths)
+      either {A = Chosen} (eqb depth 0) (λ g. length (g .widths) ≡ length lengths) _ _ (length-replicate {A = ℕ} (length lengths) 0) (from-each depth _ lengths)
 
   trimmed-each : (pass : ℕ → Float) (depth : ℕ) (ws : List ℕ) → length (raggedWidths pass price chains depth ws .widths) ≡ length ws
   unfolding raggedWidths dropSlot fullDraft
@@ -53,7 +49,7 @@ module _ (price : Float → Float) (chains : List Float) where
       → length (raggedGate price chains lengths depth kind rates loaded .widths) ≡ length lengths
   unfolding raggedGate
   ragged-each lengths depth kind rates loaded =
-      either (eqb depth 0) (λ g. length (g .widths) ≡ length lengths) _ _ (length-replicate {A = ℕ} (length lengths) 0)
+      either {A = Chosen} (eqb depth 0) (λ g. length (g .widths) ≡ length lengths) _ _ (length-replicate {A = ℕ} (length lengths) 0)
       (trimmed-each (passOf kind rates loaded) depth (starts depth lengths) ∙ starts-length depth lengths)
 
 -- ---- of chains that are all as long as gamma
@@ -77,7 +73,7 @@ module _ (n gamma : ℕ) where
   gate-narrow kind rates loaded curve chains depth =
       let price : Float → Float = verifyCost curve n in
       let lengths : List ℕ = replicate n gamma in
-      either (isBlock kind) (λ g. Narrow n gamma (g .widths)) (blockGate price chains lengths curve depth kind rates loaded) (raggedGate price chains lengths depth kind rates loaded)
+      either {A = Chosen} (isBlock kind) (λ g. Narrow n gamma (g .widths)) (blockGate price chains lengths curve depth kind rates loaded) (raggedGate price chains lengths depth kind rates loaded)
       (narrow depth _ (block-each price chains lengths curve depth kind rates loaded) (block-widths price chains lengths curve depth kind rates loaded))
       (narrow depth _ (ragged-each price chains lengths depth kind rates loaded) (ragged-widths price chains lengths depth kind rates loaded))
 
@@ -86,9 +82,9 @@ module _ (n gamma : ℕ) where
   gate-weighed kind rates loaded curve chains depth =
       let price : Float → Float = verifyCost curve n in
       let lengths : List ℕ = replicate n gamma in
-      either (isBlock kind) (λ g. g .weighed ≤ n * gamma) (blockGate price chains lengths curve depth kind rates loaded) (raggedGate price chains lengths depth kind rates loaded)
-      (omega (arith, block-weighed price chains lengths curve depth kind rates loaded, fewer depth lengths, sum-equal gamma n))
-      (omega (arith, ragged-weighed price chains lengths depth kind rates loaded, fewer depth lengths, sum-equal gamma n))
+      either {A = Chosen} (isBlock kind) (λ g. g .weighed ≤ n * gamma) (blockGate price chains lengths curve depth kind rates loaded) (raggedGate price chains lengths depth kind rates loaded)
+      (omega (arith, block-weighed price chains lengths curve depth kind rates loaded, sum-starts depth lengths, sum-equal gamma n))
+      (omega (arith, ragged-weighed price chains lengths depth kind rates loaded, sum-starts depth lengths, sum-equal gamma n))
 
 -- ---- together
 

@@ -2,7 +2,7 @@
 use mathlib.Core.Path.{_≡_, refl, sym, ap, _∙_}
 use mathlib.Core.Bool.{Bool, true, false, _&&_, cond}
 use mathlib.Core.List.{List, _∷_, _++_}
-use mathlib.Core.Option.{Option, none, some}
+use mathlib.Core.Option.{Option}
 use Prim.Native.Nat.{ℕ, zero, suc, _+_, _≤_, min}
 use native.Mathlib.Omega.{arith}
 use borrow.Author.Tests.{le-leb}
@@ -24,7 +24,7 @@ use Rattle.ledger.specs.Calls.{recorded}
 use Rattle.ledger_laws.specs.Model.{Worker, Switching, Change, planned as plain, decided, recordOf, stepRule, workerRule, Standing as Ledger, step as ruled, refusal, plan as plainly, decide}
 use Rattle.ledger_laws.specs.Encode.{pastFrom, encode}
 use Rattle.ledger_laws.specs.Run.{recordFrom, recordIn}
-use Rattle.ledger_laws.proofs.Forth.{Reached, wide-enough, by-rule, by-worker-rule, record-read, plan-made, decide-made}
+use Rattle.ledger_laws.proofs.Forth.{Reached, wide-enough, by-rule, by-worker-rule, record-read, plan-made, decide-made, read-back}
 use Rattle.settings.specs.declared.Policy.{Policy}
 use Rattle.settings.specs.declared.Policy.the-variants.{Fixed, GoodputBudget, GatedBudget, GatedAggregate}
 use Rattle.settings.specs.declared.Settings.{Settings}
@@ -103,11 +103,6 @@ module _ (s : Settings) (a : Ask) (l : Lent) (ws ds cs : List ℕ) where
     parts zero false (suc second) draws d = refl
     parts zero false zero (Used used) d = refl
     parts zero false zero (NotDrawn number) d = refl
-
-read-back : (o : Option Switching) → recordFrom (pastFrom o) ≡ o
-unfolding recordFrom
-read-back none = refl
-read-back (some r) = refl
 
 -- ---- on words that hold what stands
 

@@ -4,12 +4,12 @@ use mathlib.Core.Bool.{Bool, true, false, cond}
 use mathlib.Core.List.{List, [], _∷_, _++_, append-nil}
 use Prim.Native.Nat.{ℕ, zero, suc, _+_, _-_, _≤_, _<_}
 use native.Mathlib.Nat.{not-suc-le-zero}
-use native.Mathlib.Numerals.{add-one}
 use native.Mathlib.Omega.{arith}
 use lib.Dec.{ltb}
 use lib.ListN.{length, getD, take, drop, drop-of-length-le}
-use lib.Seq.{sets, drop-cons, length-take-le, getD-take}
+use lib.Seq.{sets, length-take-le, getD-take}
 use borrow.Author.Tests.{le-ltb, lt-ltb}
+use Rattle.laws.proofs.Lists.{next}
 use Rattle.rounds.specs.Drawing.{Batch, refusedWith, andUsed, andThen, replayed, drawnOver}
 use Rattle.rounds.specs.declared.drawing.Drawn.{Drawn}
 use Rattle.rounds.specs.declared.drawing.Drawn.the-variants.{Used, Refused as NotDrawn}
@@ -59,12 +59,9 @@ module _ (rounds : ℕ) (indices : List ℕ) (n : ℕ) where
   unfolding indexRefusal
   judge-absent k h l = rw (one-left k h, drop-of-length-le indices l)
 
-  next : (k : ℕ) → k < length indices → drop k indices ≡ getD indices k 0 ∷ drop (k + 1) indices
-  next k h = drop-cons indices k 0 h ∙ ap (λ (i : ℕ). getD indices k 0 ∷ drop i indices) (sym (add-one k))
-
   at-index : (k : ℕ) (t : Bool) → k < n → k < length indices → ltb (getD indices k 0) rounds ≡ t → toJudge k ≡ cond t (toJudge (k + 1)) 14
   unfolding indexRefusal
-  at-index k t h l e = rw (one-left k h, next k l, e)
+  at-index k t h l e = rw (one-left k h, next indices k 0 l, e)
 
   pub judge-refused : (k : ℕ) → k < n → k < length indices → rounds ≤ getD indices k 0 → toJudge k ≡ 14
   judge-refused k h l e = at-index k false h l (le-ltb (getD indices k 0) rounds e)

@@ -1,13 +1,13 @@
 -- From the parts of a gate to the whole: at depth 0 there is nothing to weigh. Assumes nothing.
 use Prim.Native.Nat.{ℕ, _≤_}
 use mathlib.Core.Path.{_≡_, sym, ap, _∙_}
-use mathlib.Core.Bool.{Bool, true, false, cond}
 use mathlib.Core.List.{List}
 use lib.Dec.{eqb}
 use native.Mathlib.Omega.{arith}
 use borrow.Author.Tests.{eq-eqb, ne-eqb}
 use lib.ListN.{length, getD, replicate}
 use lib.Ieee.{Float, nan}
+use Rattle.laws.proofs.Choices.{first, second}
 use Rattle.speculative.specs.declared.drafter.Rates.{Rates}
 use Rattle.speculative.specs.declared.drafter.DrafterCost.{DrafterCost}
 use Rattle.slots.specs.Gate.{Chosen}
@@ -16,12 +16,6 @@ use Rattle.trim.specs.Ragged.{passOf, raggedWidths, raggedGate}
 use Rattle.slots.proofs.Stacked.{starts-length, starts-at}
 use Rattle.slots.proofs.Rooms.{fits-starts}
 use Rattle.trim.proofs.Adding.{starts-zero}
-
-first : (b : Bool) (x y : Chosen) → b ≡ true → x ≡ cond b x y
-first b x y e = rw e
-
-second : (b : Bool) (x y : Chosen) → b ≡ false → y ≡ cond b x y
-second b x y e = rw e
 
 -- ---- the ragged gate, which starts from the widths W
 pub ragged-fits :

@@ -7,13 +7,14 @@ use native.Mathlib.Omega.{arith}
 use borrow.Author.Tests.{ltb-true, ltb-false, lt-ltb, le-ltb, le-leb, lt-leb}
 use lib.Dec.{ltb, leb}
 use lib.ListN.{length, take, drop, getD, length-drop, drop-of-length-le}
-use lib.Seq.{length-take-le, take-all, take-nil, take-take, drop-drop, getD-drop}
+use lib.Seq.{length-take-le, take-all, take-nil, take-take, drop-drop}
+use Rattle.laws.proofs.Lists.{part}
 use Rattle.reader.specs.declared.Span.{Span}
 use Rattle.blocks.specs.Blocks.{find}
 use Rattle.text.specs.Lines.{lines, firstLine, afterLine}
 use Rattle.text.specs.Fields.{fields}
 use Rattle.reader.specs.Reading.{between, none, span, held, lineAt, fieldTo, fieldAt, linesFrom, fieldsFrom}
-use Rattle.blocks.proofs.Finding.{find-le, part}
+use Rattle.blocks.proofs.Finding.{find-le}
 use Rattle.text.proofs.Laws.{lines-first, first-take, after-length, after-drop, fields-last, fields-more}
 use Rattle.text.proofs.Walk.{line-stop}
 
@@ -137,22 +138,6 @@ lines-from (suc n) text at h = line-met n text at (lines-from n text) h (ltb at 
 
 pub lines-read : (text : List ℕ) → linesFrom (length text) text 0 ≡ lines text
 lines-read text = lines-from (length text) text 0 (omega arith)
-
--- ---- the second line
-
-from-one : (ls : List (List ℕ)) → ltb 0 (length (drop 1 ls)) ≡ ltb 1 (length ls)
-from-one [] = refl
-from-one (l ∷ ls) = go (ltb 0 (length ls)) refl
-  where
-    go : (t : Bool) → ltb 0 (length ls) ≡ t → t ≡ ltb 1 (suc (length ls))
-    go true e = let more = ltb-true 0 (length ls) e in sym (lt-ltb 1 (suc (length ls)) (omega arith))
-    go false e = let no-more = ltb-false 0 (length ls) e in sym (le-ltb 1 (suc (length ls)) (omega arith))
-
-pub second-there : (text : List ℕ) → lineAt text (lineAt text 0 .next) .found ≡ ltb 1 (length (lines text))
-second-there text = line-there text (lineAt text 0 .next) ∙ ap (λ (ls : List (List ℕ)). ltb 0 (length ls)) (line-next-lines text 0) ∙ from-one (lines text)
-
-pub second-held : (text : List ℕ) → held text (lineAt text (lineAt text 0 .next)) ≡ getD (lines text) 1 []
-second-held text = line-held text (lineAt text 0 .next) ∙ ap (λ (ls : List (List ℕ)). getD ls 0 []) (line-next-lines text 0) ∙ getD-drop 1 (lines text) 0 []
 
 -- ---- the fields that a reader meets in a line are the fields of the line
 

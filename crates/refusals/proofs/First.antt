@@ -3,6 +3,7 @@ use mathlib.Core.Path.{_≡_, refl, sym, ap, _∙_}
 use mathlib.Core.Bool.{Bool, cond}
 use Prim.Native.Nat.{ℕ, zero, suc, _≤_, _<_}
 use native.Mathlib.Nat.{not-suc-le-zero}
+use native.Mathlib.Omega.{arith}
 use Rattle.refusals.specs.Refusals.{firstOf}
 
 -- ---- a test that is known
@@ -23,3 +24,8 @@ goes-next r a b e h = go r h ∙ ap (λ (n : ℕ). firstOf n b) e
     go : (n : ℕ) → n ≤ 0 → b ≡ firstOf n b
     go zero k = refl
     go (suc n) k = absurd (not-suc-le-zero k)
+
+-- where neither is given
+pub first-zero : (a b : ℕ) → firstOf a b ≡ 0 → (a ≡ 0) × (b ≡ 0)
+first-zero zero b h = (refl, h)
+first-zero (suc a) b h = absurd (let w : ⊥ = omega arith in w)

@@ -3,13 +3,13 @@ use mathlib.Core.Path.{_≡_, refl, sym, ap, _∙_, subst}
 use mathlib.Core.Bool.{Bool, true, false, cond}
 use mathlib.Core.List.{List, [], _∷_}
 use Prim.Native.Nat.{ℕ, zero, suc, _+_, _-_, _≤_, _<_}
-use native.Mathlib.Numerals.{add-one}
 use native.Mathlib.Omega.{arith}
 use lib.Dec.{ltb}
 use lib.ListN.{length, getD, drop, set, drop-of-length-le}
-use lib.Seq.{sets, drop-cons, drop-drop}
+use lib.Seq.{sets, drop-drop}
 use lib.Ieee.{Float}
 use borrow.Author.Tests.{le-ltb, lt-ltb}
+use Rattle.laws.proofs.Lists.{next}
 use Rattle.acceptance.specs.Acceptance.{sampled, sampleFrom, usedOf}
 use Rattle.acceptance.proofs.Draws.{sample-bounded}
 use Rattle.acceptance.specs.declared.AcceptanceModel.{AcceptanceModel}
@@ -104,13 +104,10 @@ module _ (bank : List ℕ) (rounds : ℕ) (indices : List ℕ) (n : ℕ) where
   unfolding replayed
   replay-absent k now h l = rw (one-left n k h, drop-of-length-le indices l)
 
-  next : (k : ℕ) → k < length indices → drop k indices ≡ getD indices k 0 ∷ drop (k + 1) indices
-  next k h = drop-cons indices k 0 h ∙ ap (λ (i : ℕ). getD indices k 0 ∷ drop i indices) (sym (add-one k))
-
   at-index : (k : ℕ) (b : Bool) → k < n → k < length indices → ltb (getD indices k 0) rounds ≡ b
       → toReplay k ≡ cond b (andThen (getD bank (getD indices k 0) 0) 1 (toReplay (k + 1))) (refusedWith 14)
   unfolding replayed
-  at-index k b h l e = rw (one-left n k h, next k l, e)
+  at-index k b h l e = rw (one-left n k h, next indices k 0 l, e)
 
   pub replay-refused : (k : ℕ) (now : List ℕ) → k < n → k < length indices → rounds ≤ getD indices k 0
       → leftFrom k k now (toReplay k) ≡ record { answer = NotDrawn 14; commits = now }

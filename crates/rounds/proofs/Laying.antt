@@ -1,13 +1,13 @@
 -- Laws of chains laid one after the other, 64 slots each. Assumes nothing.
 use mathlib.Core.Path.{_≡_, refl, sym, ap, _∙_, subst}
 use mathlib.Core.Bool.{Bool, true, _&&_}
-use mathlib.Core.List.{List, [], _∷_, _++_}
+use mathlib.Core.List.{List, [], _++_}
 use Prim.Native.Nat.{ℕ, zero, suc, _+_, _-_, _*_, _≤_, _<_}
-use native.Mathlib.Numerals.{add-one}
 use native.Mathlib.Omega.{arith}
 use lib.ListN.{length, getD, take, drop, replicate, length-append, length-replicate, length-take, drop-of-length-le}
-use lib.Seq.{sets, length-sets, drop-cons, take-at}
+use lib.Seq.{sets, length-sets, take-at}
 use lib.Ieee.{Float}
+use Rattle.laws.proofs.Lists.{next}
 use Rattle.float.specs.Floats.{f0, f1, isFinite}
 use Rattle.acceptance.specs.declared.AcceptanceModel.{AcceptanceModel}
 use Rattle.chains.specs.Tests.{allOf}
@@ -103,13 +103,10 @@ module _ (model : AcceptanceModel) (positions : List Float) (gamma : ℕ) (chain
 
 -- ---- the rounds of a bank, from sequence k on
 module _ (signals : List Float) (depth gamma : ℕ) (indices : List ℕ) where
-  next : (k : ℕ) → k < length indices → drop k indices ≡ getD indices k 0 ∷ drop (k + 1) indices
-  next k h = drop-cons indices k 0 h ∙ ap (λ (i : ℕ). getD indices k 0 ∷ drop i indices) (sym (add-one k))
-
   pub rounds-next : (k : ℕ) → k < length indices
       → roundChains signals depth gamma (drop k indices) ≡ roundChain signals depth gamma (getD indices k 0) ++ roundChains signals depth gamma (drop (k + 1) indices)
   unfolding roundChains
-  rounds-next k h = ap (roundChains signals depth gamma) (next k h)
+  rounds-next k h = ap (roundChains signals depth gamma) (next indices k 0 h)
 
   pub rounds-end : (k : ℕ) → length indices ≤ k → roundChains signals depth gamma (drop k indices) ≡ []
   unfolding roundChains
@@ -118,7 +115,7 @@ module _ (signals : List Float) (depth gamma : ℕ) (indices : List ℕ) where
   pub finite-next : (k : ℕ) (z : Bool) → k < length indices → allOf isFinite (confidences signals depth gamma (getD indices k 0)) ≡ z
       → areFinite signals depth gamma (drop k indices) ≡ (z && areFinite signals depth gamma (drop (k + 1) indices))
   unfolding areFinite
-  finite-next k z h e = ap (areFinite signals depth gamma) (next k h) ∙ ap (λ (b : Bool). b && areFinite signals depth gamma (drop (k + 1) indices)) e
+  finite-next k z h e = ap (areFinite signals depth gamma) (next indices k 0 h) ∙ ap (λ (b : Bool). b && areFinite signals depth gamma (drop (k + 1) indices)) e
 
   pub finite-end : (k : ℕ) → length indices ≤ k → areFinite signals depth gamma (drop k indices) ≡ true
   unfolding areFinite

@@ -4,16 +4,13 @@ use mathlib.Core.List.{List, []}
 use Prim.Native.Nat.{ℕ, zero, suc, _+_, _-_, _≤_, _<_}
 use native.Mathlib.Nat.{not-suc-le-zero, le-of-suc-le-suc, le-of-eq}
 use native.Mathlib.Omega.{arith}
-use lib.ListN.{length, getD, take, drop, length-drop, drop-of-length-le}
+use lib.ListN.{length, getD, take, drop, drop-of-length-le}
 use lib.Seq.{take-all}
 use lib.Ieee.{Float, nan}
+use Rattle.laws.proofs.Lists.{part}
 use Rattle.acceptance.specs.Acceptance.{aD}
 use Rattle.acceptance.specs.declared.AcceptanceModel.{AcceptanceModel}
 use Rattle.rounds.specs.Signals.{valuesFrom}
-
--- the part from a place to the end is the rest
-pub rest-part : (n : ℕ) (s : List Float) → take (length s - n) (drop n s) ≡ drop n s
-rest-part n s = take-all (length s - n) (drop n s) (le-of-eq (length-drop n s))
 
 take-nothing : (n : ℕ) → take {A = Float} n [] ≡ []
 take-nothing zero = refl
@@ -22,17 +19,17 @@ take-nothing (suc n) = refl
 -- where nothing is there
 pub past-end : (s : List Float) (at count : ℕ) → length s ≤ at → take (length s - length s) (drop (length s) s) ≡ take count (drop at s)
 past-end s at count h =
-    rest-part (length s) s ∙ drop-of-length-le s (le-of-eq refl) ∙ sym (take-nothing count) ∙ ap (take count) (sym (drop-of-length-le s h))
+    part (length s) s ∙ drop-of-length-le s (le-of-eq refl) ∙ sym (take-nothing count) ∙ ap (take count) (sym (drop-of-length-le s h))
 
 -- where there is more
 pub in-part : (s : List Float) (at count : ℕ) → take count (take (length s - at) (drop at s)) ≡ take count (drop at s)
-in-part s at count = ap (take count) (rest-part at s)
+in-part s at count = ap (take count) (part at s)
 
 -- where there is no more
 pub all-part : (s : List Float) (at count : ℕ) → length (take (length s - at) (drop at s)) ≤ count → take (length s - at) (drop at s) ≡ take count (drop at s)
 all-part s at count h =
-    let l : length (drop at s) ≤ count = omega (arith, ap length (rest-part at s)) in
-    rest-part at s ∙ sym (take-all count (drop at s) l)
+    let l : length (drop at s) ≤ count = omega (arith, ap length (part at s)) in
+    part at s ∙ sym (take-all count (drop at s) l)
 
 -- ---- the model's values
 module _ (model : AcceptanceModel) (positions : List Float) where

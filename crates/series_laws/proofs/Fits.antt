@@ -6,12 +6,13 @@ use native.Mathlib.Omega.{arith}
 use lib.Dec.{ltb}
 use lib.Ieee.{Float, binary64, toBits, lt}
 use lib.ListN.{length, replicate, length-append, length-replicate, length-take}
+use Rattle.page.proofs.Lengths.{length-digits}
 use Rattle.page.specs.Page.{lineRoom}
 use Rattle.page.specs.Spelt.{spelt}
 use Rattle.page.specs.Numbers.{decimal, sixteen, sixDecimals, bar}
 use Rattle.figures.specs.Figures.{limit, outOfRange, millionths, meanBar, zeroFigure, highFigure, figureMillionths, figureText}
 use Rattle.columns.specs.Columns.{blanks, padded}
-use Rattle.columns.proofs.Lengths.{length-digits, chosen-short, decimal-short, six-short, mean-short}
+use Rattle.columns.proofs.Lengths.{chosen-short, decimal-short, six-short, mean-short}
 use Rattle.series_fields.specs.Fields.{column, meanColumn, bitsField, seriesSums, floatLine}
 use Rattle.series_lines.specs.Lines.{seriesHead, seriesMeans, seriesRow, seriesBits, dayLine, collectLine}
 

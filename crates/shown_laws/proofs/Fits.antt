@@ -1,5 +1,5 @@
 -- The longest line, that of a plan of 1,024 sequences, fits the room that is made for a line: no part of it is left out. Assumes nothing.
-use Prim.Native.Nat.{ℕ, zero, suc, _+_, _-_, _*_, _/_, _%_, _^_, _≤_, _<_}
+use Prim.Native.Nat.{ℕ, zero, suc, _+_, _-_, _*_, _^_, _≤_, _<_}
 use mathlib.Core.Path.{_≡_, refl, ap, subst, _∙_}
 use mathlib.Core.Bool.{Bool, true, false, cond}
 use mathlib.Core.List.{List, [], _∷_, _++_}
@@ -9,7 +9,7 @@ use native.Mathlib.Omega.{arith}
 use borrow.Author.Tests.{ltb-true, ltb-false}
 use lib.Dec.{ltb}
 use lib.ListN.{length, take, getD, length-append}
-use Rattle.io.specs.Digits.{digits, glyph}
+use Rattle.page.proofs.Lengths.{length-digits, places-most}
 use Rattle.page.specs.Page.{Added, lineRoom, roomy}
 use Rattle.page.specs.Spelt.{spelt}
 use Rattle.page.specs.Numbers.{placesFrom, decimal}
@@ -17,13 +17,7 @@ use Rattle.page.proofs.Adding.{text-after}
 use Rattle.line_parts.specs.Parts.{labelled, spaced}
 use Rattle.shown.specs.Lines.{planHead, planLists}
 
-length-digits : (b k n : ℕ) → length (digits b k n) ≡ k
-length-digits b zero n = refl
-length-digits b (suc k) n =
-    let before : length (digits b k (n / b)) ≡ k = length-digits b k (n / b) in
-    omega (arith, length-append (digits b k (n / b)) (glyph (n % b) ∷ []))
-
--- a number below 10 ^ most takes so many digits, and any takes k + more
+-- a number below 10 ^ most takes so many digits
 places-below : (more k n most : ℕ) → k ≤ most → n < 10 ^ most → placesFrom more k n ≤ most
 unfolding placesFrom
 places-below zero k n most h l = h
@@ -39,15 +33,6 @@ places-below (suc more) k n most h l = by-test (ltb n (10 ^ k)) refl (λ (s : su
     by-test : (t : Bool) → ltb n (10 ^ k) ≡ t → (suc k ≤ most → placesFrom more (suc k) n ≤ most) → cond t k (placesFrom more (suc k) n) ≤ most
     by-test true e next = h
     by-test false e next = next (past (ltb-false n (10 ^ k) e))
-
-places-most : (more k n : ℕ) → placesFrom more k n ≤ k + more
-unfolding placesFrom
-places-most zero k n = omega arith
-places-most (suc more) k n = by-test (ltb n (10 ^ k)) (places-most more (suc k) n)
-  where
-    by-test : (t : Bool) → placesFrom more (suc k) n ≤ suc k + more → cond t k (placesFrom more (suc k) n) ≤ k + suc more
-    by-test true next = omega arith
-    by-test false next = omega arith
 
 pub decimal-most : (n : ℕ) → length (decimal n) ≤ 20
 unfolding decimal

@@ -30,12 +30,6 @@ pub fill-none : (f : ℕ → Float) (xs : List Float) → xs ≡ fill f 0 0 xs
 unfolding fill
 fill-none f xs = refl
 
-pub fill-length : (f : ℕ → Float) (k g : ℕ) (xs : List Float) → length (fill f k g xs) ≡ length xs
-unfolding fill
-fill-length f zero g xs = refl
-fill-length f (suc k) g [] = refl
-fill-length f (suc k) g (x ∷ xs) = ap suc (fill-length f k (suc g) xs)
-
 -- all slots
 pub fill-all : (f : ℕ → Float) (k g : ℕ) (xs : List Float) → length xs ≡ k → fill f k g xs ≡ each f k g
 unfolding fill each

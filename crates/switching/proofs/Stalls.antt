@@ -4,17 +4,17 @@ use mathlib.Core.Bool.{Bool, true, false, not, _&&_, _||_, cond}
 use mathlib.Core.List.{List, [], _∷_}
 use lib.ListN.{length}
 use Prim.Native.Nat.{ℕ, zero, suc, _+_, _-_, _*_, _/_, _^_, _≤_, _<_}
-use native.Mathlib.Nat.{le-trans, le-of-eq, le-of-lt, lt-of-lt-of-le, zero-add, zero-lt-suc, mul-one, mul-comm, mul-assoc, mul-left-comm, mul-right-comm, add-mul, mul-le-mul-right, mul-pos, le-of-mul-le-mul-right}
+use native.Mathlib.Nat.{le-trans, le-of-eq, le-of-lt, zero-add, zero-lt-suc, mul-one, mul-comm, mul-assoc, mul-left-comm, mul-right-comm, add-mul, mul-le-mul-right, mul-pos, le-of-mul-le-mul-right}
 use native.Mathlib.Omega.{arith}
 use borrow.Author.Tests.{eq-eqb, ltb-false}
 use lib.Dec.{T, eqb, ltb, ltb→lt, eqb→eq, leb}
 use lib.IntN.{ℤ, pos, negsuc}
-use lib.Pow.{pow-mono, shl-lt}
 use lib.Ieee.{Float, nan, inf, fin, Format, prec, emax, low, up, down, size, odd, units, round, sum, add, mul, lt, eq, le, binary64, ofBits}
-use lib.Ieee.Fits.{down-pos, round-is, reach}
+use lib.Ieee.Fits.{down-pos, round-is}
 use lib.Ieee.Nearest.{closest}
-use lib.Ieee.Exact.{HasValue, round-exact}
+use lib.Ieee.Exact.{HasValue}
 use lib.Ieee.Order.{round-mono}
+use Rattle.decimals.proofs.Rounding.{whole-held}
 use Rattle.float.specs.Floats.{plus, times, f0, isFinite, isClear}
 use Rattle.float.specs.Range.{inRange}
 use Rattle.float.proofs.Classes.{clash}
@@ -97,16 +97,6 @@ below-held (fin false m e) (fin false k d) n u v h =
 -- a / b is at most c / d, which rounds to n
 pub rounded : (a b c d n : ℕ) → 0 < b → 0 < d → a * d ≤ c * b → HasValue (round binary64 false c d) false n 1 → UpTo n (round binary64 false a b)
 rounded a b c d n B D h v = below-held (round binary64 false a b) (round binary64 false c d) n (round-upper binary64 a b) v (round-mono binary64 a b c d B D h)
-
--- a whole number below 2 ^ 53 is held exactly
-room : (f : Format) → prec f + low f ≤ low f + suc (emax f)
-room f = let h = reach f in omega arith
-
-pub whole-held : (f : Format) (n : ℕ) → n < 2 ^ prec f → HasValue (round f false n 1) false n 1
-whole-held f n h =
-    round-exact f false n 1 n (low f) (zero-lt-suc 0) h
-    (lt-of-lt-of-le (shl-lt (prec f) (low f) h) (pow-mono (room f)))
-    (sym (mul-one (n * 2 ^ low f)))
 
 -- ---- a sum
 sum-fits : (a b p q e d : ℕ) → a ≤ p * e → b ≤ q * d → (a * d + b * e) * 1 ≤ (p + q) * (e * d)

@@ -1,16 +1,15 @@
 -- The record's steps and what is refused: each way through the code. Assumes nothing.
 use mathlib.Core.Path.{_≡_, refl, sym, ap, _∙_}
 use mathlib.Core.Bool.{Bool, true, false, _&&_, cond}
-use mathlib.Core.List.{List, [], _∷_}
+use mathlib.Core.List.{List, []}
 use Prim.Native.Nat.{ℕ, zero, suc, _+_, _-_, _≤_, _<_, max}
 use native.Mathlib.Nat.{not-suc-le-zero}
-use native.Mathlib.Numerals.{add-one}
 use native.Mathlib.Omega.{arith}
 use borrow.Author.Tests.{le-leb, lt-leb, eq-eqb, ne-eqb, leb-true}
 use lib.Dec.{leb}
 use lib.ListN.{length, getD, drop, drop-of-length-le}
-use lib.Seq.{drop-cons}
 use lib.Ieee.{Float, nan}
+use Rattle.laws.proofs.Lists.{next as next-entry}
 use Rattle.float.specs.Floats.{plus, times, f0, isFinite, isClear}
 use Rattle.float.specs.Range.{inRangeOrInfinite}
 use Rattle.refusals.specs.Refusals.{firstOf}
@@ -86,11 +85,8 @@ module _ (s : Switching) where
       go true true true false f g h i z = absurd (let w : ⊥ = omega arith in w)
 
 -- ---- the prices
-next-price : (t : List Float) (i : ℕ) → i < length t → drop i t ≡ getD t i nan ∷ drop (i + 1) t
-next-price t i h = drop-cons t i nan h ∙ ap (λ (n : ℕ). getD t i nan ∷ drop n t) (sym (add-one i))
-
 pub prices-next : (z : Bool) (t : List Float) (i : ℕ) → i < length t → inRangeOrInfinite f0 billion (getD t i nan) ≡ z → allPrices (drop i t) ≡ (z && allPrices (drop (i + 1) t))
-prices-next z t i h e = ap allPrices (next-price t i h) ∙ ap (λ (b : Bool). b && allPrices (drop (i + 1) t)) e
+prices-next z t i h e = ap allPrices (next-entry t i nan h) ∙ ap (λ (b : Bool). b && allPrices (drop (i + 1) t)) e
 
 pub prices-end : (t : List Float) (i : ℕ) → length t ≤ i → allPrices (drop i t) ≡ true
 prices-end t i h = ap allPrices (drop-of-length-le t h)

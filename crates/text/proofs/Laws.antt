@@ -9,10 +9,11 @@ use native.Mathlib.Omega.{arith}
 use borrow.Author.Tests.{eq-eqb, ne-eqb, eqb-true}
 use lib.Dec.{eqb}
 use lib.ListN.{length, getD, take, drop, length-drop, drop-of-length-le}
+use Rattle.laws.proofs.Lists.{next}
 use Rattle.blocks.specs.Blocks.{find, tally, isByte}
 use Rattle.text.specs.Lines.{startsWith, onto, lines, firstLine, afterLine}
 use Rattle.text.specs.Fields.{fields, sameText}
-use Rattle.blocks.proofs.Finding.{next, test}
+use Rattle.blocks.proofs.Finding.{test}
 
 -- ---- the fields of a line, from its front
 
@@ -49,14 +50,6 @@ fields-some (b ∷ s) = go (eqb b 44)
     go true = suc-le-suc zero-le
     go false = onto-some b (fields s)
 
-pub count-comma : (t : List ℕ) (i : ℕ) → i < length t → getD t i 0 ≡ 44 → length (fields (drop i t)) ≡ suc (length (fields (drop (i + 1) t)))
-count-comma t i h e = ap (λ (s : List ℕ). length (fields s)) (next t i h) ∙ rw (eq-eqb (getD t i 0) 44 e)
-
-pub count-other : (t : List ℕ) (i : ℕ) → i < length t → (getD t i 0 ≡ 44 → ⊥) → length (fields (drop i t)) ≡ length (fields (drop (i + 1) t))
-count-other t i h n =
-    let s = drop (i + 1) t in
-    ap (λ (s : List ℕ). length (fields s)) (next t i h) ∙ rw (ne-eqb (getD t i 0) 44 n) (onto-length (getD t i 0) (fields s) (fields-some s))
-
 -- ---- a line has one field more than commas
 
 pub fields-counted : (s : List ℕ) → length (fields s) ≡ tally (isByte 44) s + 1
@@ -73,10 +66,10 @@ fields-counted (b ∷ s) = go (eqb b 44) (fields-counted s)
 -- ---- two texts
 
 pub same-next : (a b : List ℕ) (i : ℕ) → i < length a → i < length b → getD a i 0 ≡ getD b i 0 → sameText (drop i a) (drop i b) ≡ sameText (drop (i + 1) a) (drop (i + 1) b)
-same-next a b i h k e = rw (next a i h, next b i k, eq-eqb (getD a i 0) (getD b i 0) e)
+same-next a b i h k e = rw (next a i 0 h, next b i 0 k, eq-eqb (getD a i 0) (getD b i 0) e)
 
 pub same-differ : (a b : List ℕ) (i : ℕ) → i < length a → i < length b → (getD a i 0 ≡ getD b i 0 → ⊥) → sameText (drop i a) (drop i b) ≡ false
-same-differ a b i h k n = rw (next a i h, next b i k, ne-eqb (getD a i 0) (getD b i 0) n)
+same-differ a b i h k n = rw (next a i 0 h, next b i 0 k, ne-eqb (getD a i 0) (getD b i 0) n)
 
 pub same-lengths : (a b : List ℕ) → (length a ≡ length b → ⊥) → sameText a b ≡ false
 same-lengths [] [] n = absurd (n refl)
@@ -87,11 +80,6 @@ same-lengths (x ∷ s) (y ∷ t) n = go (eqb x y) (same-lengths s t (λ e. n (ap
     go : (z : Bool) → sameText s t ≡ false → (z && sameText s t) ≡ false
     go true e = e
     go false e = refl
-
--- the test is equality
-pub same-self : (s : List ℕ) → sameText s s ≡ true
-same-self [] = refl
-same-self (b ∷ s) = ap (λ (z : Bool). z && sameText s s) (eq-eqb b b refl) ∙ same-self s
 
 pub same-equal : (s t : List ℕ) → sameText s t ≡ true → s ≡ t
 same-equal [] [] e = refl

@@ -8,8 +8,8 @@ use borrow.Author.Tests.{le-leb, lt-leb, ne-eqb}
 use lib.Dec.{eqb}
 use lib.ListN.{length, getD, take, drop}
 use lib.Seq.{take-suc}
+use Rattle.laws.proofs.Lists.{next}
 use Rattle.trimming.specs.Trim.{isBlank, allBlank, frontTrimmed, endTrimmed, trimmed}
-use Rattle.blocks.proofs.Finding.{next}
 
 -- ---- which bytes are blanks
 
@@ -25,10 +25,10 @@ blank-above b h k = simp (le-leb 9 b h, lt-leb b 13 k)
 -- ---- from the front: the byte at i
 
 pub front-goes-on : (t : List ℕ) (i : ℕ) → i < length t → isBlank (getD t i 0) ≡ true → frontTrimmed (drop i t) ≡ frontTrimmed (drop (i + 1) t)
-front-goes-on t i h e = ap frontTrimmed (next t i h) ∙ ap (λ (z : Bool). cond z (frontTrimmed (drop (i + 1) t)) (getD t i 0 ∷ drop (i + 1) t)) e
+front-goes-on t i h e = ap frontTrimmed (next t i 0 h) ∙ ap (λ (z : Bool). cond z (frontTrimmed (drop (i + 1) t)) (getD t i 0 ∷ drop (i + 1) t)) e
 
 pub front-stops : (t : List ℕ) (i : ℕ) → i < length t → isBlank (getD t i 0) ≡ false → frontTrimmed (drop i t) ≡ drop i t
-front-stops t i h e = ap frontTrimmed (next t i h) ∙ ap (λ (z : Bool). cond z (frontTrimmed (drop (i + 1) t)) (getD t i 0 ∷ drop (i + 1) t)) e ∙ sym (next t i h)
+front-stops t i h e = ap frontTrimmed (next t i 0 h) ∙ ap (λ (z : Bool). cond z (frontTrimmed (drop (i + 1) t)) (getD t i 0 ∷ drop (i + 1) t)) e ∙ sym (next t i 0 h)
 
 -- ---- from the end: i is the last byte
 

@@ -4,9 +4,10 @@ use mathlib.Core.List.{List, [], _∷_}
 use Prim.Native.Nat.{ℕ, _+_, _-_, _≤_}
 use native.Mathlib.Omega.{arith}
 use lib.ListN.{length, getD, take, drop}
+use Rattle.laws.proofs.Lists.{part}
 use Rattle.text.specs.Fields.{fields}
 use Rattle.trimming.specs.Trim.{trimmed}
-use Rattle.blocks.proofs.Finding.{found-le, part, part-length}
+use Rattle.blocks.proofs.Finding.{found-le, part-length}
 use Rattle.text.proofs.Walk.{field-last, field-next, field-first}
 use Rattle.day_shapes.specs.Shapes.{fieldWrong, stepOf, shapeJudged}
 use Rattle.day_shapes.proofs.Turns.{field-passes, field-stops, step-le}

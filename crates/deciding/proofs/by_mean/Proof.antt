@@ -3,8 +3,9 @@ use mathlib.Core.Path.{_≡_}
 use mathlib.Core.List.{[]}
 use native.Mathlib.Omega.{arith}
 use denote.Ref.{now}
+use Rattle.asking.proofs.Passed.{gamma-in-le}
 use Rattle.deciding.specs.Ready.{lentOf}
-use Rattle.deciding.proofs.Decisions.{gamma-low, mean-decides}
+use Rattle.deciding.proofs.Decisions.{mean-decides}
 use borrow.Author.Needs.{needs}
 use Rattle.deciding.proofs.by_mean.Statement.{statement}
 use Rattle.deciding.proofs.by_mean.Tie as tie
@@ -17,7 +18,7 @@ mean-depth-requires c κs =
     let a = c .before .before .before .before .before .before .args in
     let pre = c .before .before .before .before .before .before .pre in
     let e = c .gamma-in .ensures in
-    ((omega (arith, e, gamma-low (a .settings) (a .ask .depth), pre .0 .0), omega (arith, e, pre .0 .2)), λ t. omega (arith, e, pre .1 t))
+    ((omega (arith, e, gamma-in-le (a .settings) (a .ask .depth), pre .0 .0), omega (arith, e, pre .0 .2)), λ t. omega (arith, e, pre .1 t))
 
 fill-requires : tie.Need-fill-requires
 fill-requires c κs = search needs

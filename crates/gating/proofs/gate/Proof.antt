@@ -1,6 +1,6 @@
 -- `gate` meets its contract. Assumes nothing.
 use mathlib.Core.Path.{_≡_, sym, _∙_}
-use Rattle.gating.proofs.Batches.{first, second}
+use Rattle.laws.proofs.Choices.{first, second}
 use borrow.Author.Needs.{needs}
 use Rattle.gating.proofs.gate.Statement.{statement}
 use Rattle.gating.proofs.gate.Tie as tie

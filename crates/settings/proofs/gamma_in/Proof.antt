@@ -28,7 +28,9 @@ capped-requires-3 : tie.Need-capped-requires-3
 capped-requires-3 c κs = search needs
 
 returns : tie.Need-returns
-returns c = search needs
+returns c =
+    let a = c .before .before .args in
+    ap (λ (p : Policy). gammaUnder p (a .settings .model) (a .settings .gamma) (a .depth)) (sym (c .enum-told .given .1))
 
 returns-2 : tie.Need-returns-2
 returns-2 c =

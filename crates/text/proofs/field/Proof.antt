@@ -6,8 +6,9 @@ use native.Mathlib.Nat.{pos-of-ne-zero}
 use native.Mathlib.Omega.{arith}
 use lib.ListN.{length, getD, take, drop, drop-of-length-le}
 use lib.Seq.{length-take-le}
+use Rattle.laws.proofs.Lists.{part}
 use Rattle.text.specs.Fields.{fields}
-use Rattle.blocks.proofs.Finding.{found-le, part, part-length}
+use Rattle.blocks.proofs.Finding.{found-le, part-length}
 use Rattle.text.proofs.Walk.{getD-more, field-last, field-next, field-first}
 use borrow.Author.Needs.{needs}
 use Rattle.text.proofs.field.Statement.{statement}

@@ -4,9 +4,9 @@ use Prim.Native.Nat.{_≤_, _-_}
 use native.Mathlib.Omega.{arith}
 use borrow.Author.Tests.{not-true, not-false}
 use lib.ListN.{length, drop, drop-of-length-le}
+use Rattle.laws.proofs.Lists.{part}
 use Rattle.trimming.specs.Trim.{frontTrimmed}
 use Rattle.trimming.proofs.Trimming.{front-goes-on, front-stops}
-use Rattle.blocks.proofs.Finding.{part}
 use borrow.Author.Needs.{needs}
 use Rattle.trimming.proofs.trim_front.Statement.{statement}
 use Rattle.trimming.proofs.trim_front.Tie as tie

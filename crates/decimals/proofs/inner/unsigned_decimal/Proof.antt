@@ -3,8 +3,9 @@ use mathlib.Core.Path.{sym, _∙_}
 use Prim.Native.Nat.{_+_, _^_}
 use native.Mathlib.Omega.{arith}
 use lib.Seq.{length-take-le}
+use Rattle.laws.proofs.Lists.{part}
 use Rattle.digits.specs.Digits.{isDigit}
-use Rattle.digits.proofs.Bytes.{count-le, rest}
+use Rattle.digits.proofs.Bytes.{count-le}
 use Rattle.digits.proofs.Leading.{count-is, number-le}
 use Rattle.decimals.proofs.Outcomes.{alone, no-point, other-than-point, parted, other-behind, both-parts}
 use borrow.Author.Needs.{needs}
@@ -31,14 +32,14 @@ of-digits-requires : tie.Need-of-digits-requires
 of-digits-requires c κs =
     let t = c .before .before .before .before .args .text .now in
     let before = c .before .before .leading-digits in
-    alone t (before .result) (before .ensures) _ (c .before .if1 .taken) (rest (before .result .count) t)
+    alone t (before .result) (before .ensures) _ (c .before .if1 .taken) (part (before .result .count) t)
 
 returns : tie.Need-returns
 returns c =
     let a = c .before .before .before .before .before .args in
     let t = a .text .now in
     let before = c .before .before .before .leading-digits in
-    c .of-digits .ensures ∙ no-point (a .negative) t (before .result .count) (count-is 0 (10 ^ 15) t (before .result) (before .ensures)) _ (c .before .before .if1 .taken) (rest (before .result .count) t)
+    c .of-digits .ensures ∙ no-point (a .negative) t (before .result .count) (count-is 0 (10 ^ 15) t (before .result) (before .ensures)) _ (c .before .before .if1 .taken) (part (before .result .count) t)
 
 shared-slice-read-if2 : tie.Need-shared-slice-read-if2
 shared-slice-read-if2 c = search needs
@@ -71,7 +72,7 @@ returns-3 c =
     let t = a .text .now in
     let before = c .before .before .before .before .before .before .before .leading-digits in
     let both = c .before .before .leading-digits2 in
-    other-behind (a .negative) t (before .result .count) (count-is 0 (10 ^ 15) t (before .result) (before .ensures)) _ (c .before .before .before .before .before .before .if1 .left) (c .before .before .before .before .if2 .left) (rest (before .result .count + 1) t)
+    other-behind (a .negative) t (before .result .count) (count-is 0 (10 ^ 15) t (before .result) (before .ensures)) _ (c .before .before .before .before .before .before .if1 .left) (c .before .before .before .before .if2 .left) (part (before .result .count + 1) t)
     (both .result .count) (count-is (before .result .number) (10 ^ 15) _ (both .result) (both .ensures)) (c .if3 .taken)
 
 slice-aggregate-of-digits : tie.Need-slice-aggregate-of-digits
@@ -90,7 +91,7 @@ returns-4 c =
     let t = a .text .now in
     let before = c .before .before .before .before .before .before .before .before .before .leading-digits in
     c .of-digits2 .ensures
-    ∙ parted (a .negative) t (before .result .count) (count-is 0 (10 ^ 15) t (before .result) (before .ensures)) _ (c .before .before .before .before .before .before .before .before .if1 .left) (c .before .before .before .before .before .before .if2 .left) (rest (before .result .count + 1) t)
+    ∙ parted (a .negative) t (before .result .count) (count-is 0 (10 ^ 15) t (before .result) (before .ensures)) _ (c .before .before .before .before .before .before .before .before .if1 .left) (c .before .before .before .before .before .before .if2 .left) (part (before .result .count + 1) t)
 
 pub unsigned-decimal-spec : {M : Type 1} → statement M
 unsigned-decimal-spec =

@@ -5,9 +5,10 @@ use Prim.Native.Nat.{_+_, _-_}
 use native.Mathlib.Omega.{arith}
 use lib.ListN.{length, take, drop}
 use lib.Seq.{length-take-le}
+use Rattle.laws.proofs.Lists.{part}
 use Rattle.digits.specs.Digits.{isDigit}
 use Rattle.decimals.specs.Decimals.{decimalRefusal}
-use Rattle.digits.proofs.Bytes.{count-le, rest}
+use Rattle.digits.proofs.Bytes.{count-le}
 use Rattle.decimals.proofs.Outcomes.{no-point, other-than-point, parted, other-behind, digits-before, digits-all, digits-none}
 use borrow.Author.Needs.{needs}
 use Rattle.decimals.proofs.inner.unsigned_refusal.Statement.{statement}
@@ -29,13 +30,13 @@ digits-refusal-requires : tie.Need-digits-refusal-requires
 digits-refusal-requires c κs =
     let t = c .before .before .before .before .args .text .now in
     let k = c .before .before .digit-count in
-    (digits-all t (k .result) (k .ensures) (c .before .if1 .taken), digits-none t _ (k .result) (c .before .if1 .taken) (rest (k .result) t))
+    (digits-all t (k .result) (k .ensures) (c .before .if1 .taken), digits-none t _ (k .result) (c .before .if1 .taken) (part (k .result) t))
 
 returns : tie.Need-returns
 returns c =
     let t = c .before .before .before .before .before .args .text .now in
     let k = c .before .before .before .digit-count in
-    c .digits-refusal .ensures ∙ ap decimalRefusal (no-point false t (k .result) (k .ensures) _ (c .before .before .if1 .taken) (rest (k .result) t))
+    c .digits-refusal .ensures ∙ ap decimalRefusal (no-point false t (k .result) (k .ensures) _ (c .before .before .if1 .taken) (part (k .result) t))
 
 shared-slice-read-if2 : tie.Need-shared-slice-read-if2
 shared-slice-read-if2 c = search needs
@@ -66,7 +67,7 @@ returns-3 c =
     let t = c .before .before .before .before .before .before .before .before .args .text .now in
     let k = c .before .before .before .before .before .before .digit-count in
     let j = c .before .digit-count2 in
-    ap decimalRefusal (other-behind false t (k .result) (k .ensures) _ (c .before .before .before .before .before .if1 .left) (c .before .before .before .if2 .left) (rest (k .result + 1) t) (j .result) (j .ensures) (c .if3 .taken))
+    ap decimalRefusal (other-behind false t (k .result) (k .ensures) _ (c .before .before .before .before .before .if1 .left) (c .before .before .before .if2 .left) (part (k .result + 1) t) (j .result) (j .ensures) (c .if3 .taken))
 
 slice-aggregate-digits-refusal : tie.Need-slice-aggregate-digits-refusal
 slice-aggregate-digits-refusal c = sym (length-take-le _ _ (omega arith))
@@ -82,7 +83,7 @@ returns-4 : tie.Need-returns-4
 returns-4 c =
     let t = c .before .before .before .before .before .before .before .before .before .before .args .text .now in
     let k = c .before .before .before .before .before .before .before .before .digit-count in
-    c .digits-refusal2 .ensures ∙ ap decimalRefusal (parted false t (k .result) (k .ensures) _ (c .before .before .before .before .before .before .before .if1 .left) (c .before .before .before .before .before .if2 .left) (rest (k .result + 1) t))
+    c .digits-refusal2 .ensures ∙ ap decimalRefusal (parted false t (k .result) (k .ensures) _ (c .before .before .before .before .before .before .before .if1 .left) (c .before .before .before .before .before .if2 .left) (part (k .result + 1) t))
 
 pub unsigned-refusal-spec : {M : Type 1} → statement M
 unsigned-refusal-spec =

@@ -5,10 +5,11 @@ use Prim.Native.Nat.{ℕ, _+_, _-_, _^_, _≤_}
 use native.Mathlib.Omega.{arith}
 use lib.ListN.{length, take, drop, length-drop}
 use lib.Seq.{length-take-le}
+use Rattle.laws.proofs.Lists.{part}
 use Rattle.digits.specs.Digits.{isDigit, countWhile}
 use Rattle.first_field.specs.Front.{isNoComma}
 use Rattle.decimals.specs.Decimals.{unsignedOf}
-use Rattle.digits.proofs.Bytes.{count-le, rest}
+use Rattle.digits.proofs.Bytes.{count-le}
 use Rattle.digits.proofs.Leading.{count-is, number-le}
 use Rattle.first_field.proofs.FirstField.{point-length, point-parts, point-spelled}
 use borrow.Author.Needs.{needs}
@@ -63,7 +64,7 @@ add-t24 c =
     let f = take (length t - from) (drop from t) in
     let both = c .before .before .before .before .before .leading-digits2 in
     let j : both .result .count ≡ countWhile isDigit f = count-is (c .before .before .before .before .before .before .before .before .before .before .leading-digits .result .number) (10 ^ 15) f (both .result) (both .ensures) in
-    omega (arith, count-le isDigit f, j, ap length (rest from t) ∙ length-drop from t)
+    omega (arith, count-le isDigit f, j, ap length (part from t) ∙ length-drop from t)
 
 returns : tie.Need-returns
 returns c =
@@ -76,8 +77,8 @@ returns c =
     let k = count-is 0 (10 ^ 15) t (before .result) (before .ensures) in
     let j = count-is (before .result .number) (10 ^ 15) f (both .result) (both .ensures) in
     let ends = sym (c .before .before .before .before .is-end .ensures) ∙ c .before .before .before .if3 .taken in (
-      c .of-digits .ensures ∙ point-parts t (before .result .count) k (c .before .before .before .before .before .before .before .before .before .if1 .taken) (c .before .before .before .before .before .before .before .if2 .taken) f (rest from t) (both .result .count) j ends (a .negative),
-      point-length t (before .result .count) k (c .before .before .before .before .before .before .before .before .before .if1 .taken) (c .before .before .before .before .before .before .before .if2 .taken) f (rest from t) (both .result .count) j ends,
+      c .of-digits .ensures ∙ point-parts t (before .result .count) k (c .before .before .before .before .before .before .before .before .before .if1 .taken) (c .before .before .before .before .before .before .before .if2 .taken) f (part from t) (both .result .count) j ends (a .negative),
+      point-length t (before .result .count) k (c .before .before .before .before .before .before .before .before .before .if1 .taken) (c .before .before .before .before .before .before .before .if2 .taken) f (part from t) (both .result .count) j ends,
     )
 
 field-length-requires : tie.Need-field-length-requires

@@ -6,10 +6,11 @@ use Prim.Native.Nat.{ℕ, _+_, _-_, _≤_}
 use native.Mathlib.Omega.{arith}
 use lib.ListN.{length, take, drop, length-drop}
 use lib.Seq.{length-take-le}
+use Rattle.laws.proofs.Lists.{part}
 use Rattle.digits.specs.Digits.{isDigit}
 use Rattle.first_field.specs.Front.{isNoComma}
 use Rattle.decimals.specs.Decimals.{decimalRefusal, unsignedOf}
-use Rattle.digits.proofs.Bytes.{count-le, rest}
+use Rattle.digits.proofs.Bytes.{count-le}
 use Rattle.decimals.proofs.Outcomes.{digits-before}
 use Rattle.first_field.proofs.FirstField.{point-length, point-parts}
 use borrow.Author.Needs.{needs}
@@ -60,7 +61,7 @@ add-t21 c =
     let t = c .before .before .before .before .before .before .before .before .before .before .before .before .args .text .now in
     let from = c .before .before .before .before .before .before .before .before .before .before .digit-count .result + 1 in
     let f = take (length t - from) (drop from t) in
-    omega (arith, count-le isDigit f, c .before .before .before .before .before .digit-count2 .ensures, ap length (rest from t) ∙ length-drop from t)
+    omega (arith, count-le isDigit f, c .before .before .before .before .before .digit-count2 .ensures, ap length (part from t) ∙ length-drop from t)
 
 returns : tie.Need-returns
 returns c =
@@ -68,8 +69,8 @@ returns c =
     let k = c .before .before .before .before .before .before .before .before .before .before .digit-count in
     let j = c .before .before .before .before .before .digit-count2 in
     let ends = sym (c .before .before .before .before .is-end .ensures) ∙ c .before .before .before .if3 .taken in (
-      c .digits-refusal .ensures ∙ ap decimalRefusal (point-parts t (k .result) (k .ensures) (c .before .before .before .before .before .before .before .before .before .if1 .taken) (c .before .before .before .before .before .before .before .if2 .taken) _ (rest (k .result + 1) t) (j .result) (j .ensures) ends false),
-      point-length t (k .result) (k .ensures) (c .before .before .before .before .before .before .before .before .before .if1 .taken) (c .before .before .before .before .before .before .before .if2 .taken) _ (rest (k .result + 1) t) (j .result) (j .ensures) ends,
+      c .digits-refusal .ensures ∙ ap decimalRefusal (point-parts t (k .result) (k .ensures) (c .before .before .before .before .before .before .before .before .before .if1 .taken) (c .before .before .before .before .before .before .before .if2 .taken) _ (part (k .result + 1) t) (j .result) (j .ensures) ends false),
+      point-length t (k .result) (k .ensures) (c .before .before .before .before .before .before .before .before .before .if1 .taken) (c .before .before .before .before .before .before .before .if2 .taken) _ (part (k .result + 1) t) (j .result) (j .ensures) ends,
     )
 
 field-length-requires : tie.Need-field-length-requires
