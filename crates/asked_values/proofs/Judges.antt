@@ -22,7 +22,7 @@ use Rattle.ledger_rows.specs.declared.layout.Past.{Past}
 use Rattle.goodput.specs.declared.curve.Source.the-variants.{Table}
 use Rattle.asked_values.specs.Columns.{columnsFit}
 use Rattle.asked_values.specs.Values.{heldOf, heldValued}
-use Rattle.asked_values.proofs.Cases.{both}
+use Rattle.settings.proofs.Cases.{both}
 
 -- ---- loaded experts
 all-loaded : (l : List Float) → allOf (inRange f0 million) l ≡ allLoaded l
