@@ -29,14 +29,14 @@ use Rattle.settings.specs.declared.Policy.{Policy}
 use Rattle.settings.specs.declared.Policy.the-variants.{Fixed, GoodputBudget, GatedBudget, GatedAggregate}
 use Rattle.settings.specs.declared.Settings.{Settings}
 use Rattle.settings.specs.Settings.{cappedBy, gammaUnder, gammaIn, usesCosts, usesSignals}
-use Rattle.asking.specs.declared.Ask.{Ask}
-use Rattle.asking.specs.declared.Lengths.{Lengths}
-use Rattle.asking.specs.Sizes.{bankFits, tableFits, sizesRefusal}
-use Rattle.asking.specs.Rooms.{ownRooms, priceRooms, loadedRoom, costRooms, signalRooms, bankRooms, roomsRefusal}
+use Rattle.asked_rooms.specs.declared.Ask.{Ask}
+use Rattle.asked_rooms.specs.declared.Lengths.{Lengths}
+use Rattle.asked_rooms.specs.Sizes.{bankFits, tableFits, sizesRefusal}
+use Rattle.asked_rooms.specs.Rooms.{ownRooms, priceRooms, loadedRoom, costRooms, signalRooms, bankRooms, roomsRefusal}
 use Rattle.asking.specs.Values.{pricesValued, loadedValued, curveValued, heldOf, policyValued}
 use Rattle.asking.specs.Asked.{Lent, tableOf, lengthsOf, costsValued, valuesRefusal, askedRefusal}
 use Rattle.asked_values.specs.Columns.{columnsFit}
-use Rattle.asking.proofs.Tests.{used}
+use Rattle.asked_rooms.proofs.Tests.{used}
 
 -- ---- what a refusal of 0 says
 passes : (t : Bool) (n : ℕ) → 0 < n → cond t 0 n ≡ 0 → t ≡ true

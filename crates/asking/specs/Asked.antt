@@ -12,10 +12,10 @@ use Rattle.ledger_rows.specs.declared.layout.Past.{Past}
 use Rattle.ledger_workers.specs.Workers.{pastOf}
 use Rattle.settings.specs.declared.Settings.{Settings}
 use Rattle.settings.specs.Settings.{gammaIn, usesCosts}
-use Rattle.asking.specs.declared.Ask.{Ask}
-use Rattle.asking.specs.declared.Lengths.{Lengths}
-use Rattle.asking.specs.Sizes.{sizesRefusal}
-use Rattle.asking.specs.Rooms.{roomsRefusal}
+use Rattle.asked_rooms.specs.declared.Ask.{Ask}
+use Rattle.asked_rooms.specs.declared.Lengths.{Lengths}
+use Rattle.asked_rooms.specs.Sizes.{sizesRefusal}
+use Rattle.asked_rooms.specs.Rooms.{roomsRefusal}
 use Rattle.asking.specs.Values.{pricesValued, loadedValued, policyValued}
 
 -- the lists that are lent; `positions` stand beside the settings

@@ -1,42 +1,13 @@
 // What of a plan's inputs is refused before anything is drawn: sizes (11), rooms (16), values (15).
-mod rooms;
-mod sizes;
 mod values;
 
-use goodput::curve::Source;
+pub use asked_rooms::Ask;
+use asked_rooms::Lengths;
+use asked_rooms::rooms;
+use asked_rooms::sizes;
 use settings::Settings;
-use speculative::drafter::Rates;
 ghost use mathlib.Core.Path.{_≡_};
 ghost use Rattle.asking.specs.Asked.{askedRefusal};
-
-// What a plan is asked for beside the settings: whose it is, over how many sequences, when its step ends, the rates, where the
-// prices come from, the rows of the table, and the depth and the rounds of the bank.
-pub struct Ask {
-    pub a: u64,
-    pub b: u64,
-    pub sequences: u32,
-    pub end: f64,
-    pub rates: Rates,
-    pub source: Source,
-    pub rows: usize,
-    pub depth: u32,
-    pub rounds: u32,
-}
-
-// How long each list is that a plan may be refused for.
-pub struct Lengths {
-    pub storage: usize,
-    pub drafts: usize,
-    pub commits: usize,
-    pub roofline: usize,
-    pub depths: usize,
-    pub batches: usize,
-    pub seconds: usize,
-    pub loaded: usize,
-    pub bank_commits: usize,
-    pub signals: usize,
-    pub bank_curve: usize,
-}
 
 // 11, then 16, then 15; else 0. `drafts` and `commits` are how many there is room for.
 pub fn asked_refusal(

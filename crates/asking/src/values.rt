@@ -1,6 +1,6 @@
 // 15: the values of what a plan is lent, for a caller that has judged the sizes and the lengths.
 use crate::Ask;
-use crate::rooms::uses_costs;
+use asked_rooms::rooms::uses_costs;
 use asked_values::inner;
 use settings::Settings;
 ghost use mathlib.Core.Path.{_≡_};

@@ -13,7 +13,7 @@ use Rattle.settings.specs.declared.Settings.{Settings}
 use Rattle.speculative.specs.declared.drafter.DrafterCost.{DrafterCost}
 use Rattle.speculative.specs.declared.drafter.Rates.{Rates}
 use Rattle.switch_settings.specs.declared.SwitchConstraints.{SwitchConstraints}
-use Rattle.asking.specs.declared.Ask.{Ask}
+use Rattle.asked_rooms.specs.declared.Ask.{Ask}
 use Rattle.bench_plans.specs.Whole.{modelOf, policyOf, sourceOf}
 
 module _ (k : ℕ) (alpha : Float) where

@@ -13,7 +13,7 @@ use Rattle.goodput.specs.declared.curve.Source.the-variants.{Roofline, Table}
 use Rattle.settings.specs.declared.Policy.{Policy}
 use Rattle.settings.specs.declared.Policy.the-variants.{Fixed, GoodputBudget, GatedBudget, GatedAggregate}
 use Rattle.settings.specs.declared.Settings.{Settings}
-use Rattle.asking.specs.declared.Ask.{Ask}
+use Rattle.asked_rooms.specs.declared.Ask.{Ask}
 use Rattle.judged_plans.specs.declared.Planned.{Planned}
 use Rattle.judged_plans.specs.declared.Planned.the-variants.{Plan, Empty, Refused}
 use Rattle.bench_plans.specs.Figures.{ratesOf}

@@ -16,7 +16,7 @@ use Rattle.settings.specs.declared.Policy.{Policy}
 use Rattle.settings.specs.declared.Policy.the-variants.{Fixed, GoodputBudget, GatedBudget, GatedAggregate}
 use Rattle.settings.specs.declared.Settings.{Settings}
 use Rattle.settings.specs.Settings.{gammaIn, usesCosts, usesSignals}
-use Rattle.asking.specs.declared.Ask.{Ask}
+use Rattle.asked_rooms.specs.declared.Ask.{Ask}
 use Rattle.asking.specs.Asked.{Lent}
 use Rattle.deciding.specs.Deciding.{Decided, meanExpected, toward, allAt, allPut, bestIn, byMean, byGate, byAggregate, decidedBy}
 use Rattle.gating.specs.Chains.{chainsBy}

@@ -12,7 +12,7 @@ use Rattle.budgets.specs.Budget.{over}
 use Rattle.budgets.proofs.Values.{values-length}
 use Rattle.depths.specs.Pricing.{depthOver}
 use Rattle.settings.specs.declared.Settings.{Settings}
-use Rattle.asking.specs.declared.Ask.{Ask}
+use Rattle.asked_rooms.specs.declared.Ask.{Ask}
 use Rattle.deciding.specs.Deciding.{meanExpected}
 use Rattle.deciding.specs.Ready.{looped}
 

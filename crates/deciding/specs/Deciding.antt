@@ -21,7 +21,7 @@ use Rattle.settings.specs.declared.Policy.the-variants.{Fixed, GoodputBudget, G
 use Rattle.gating.specs.Chains.{chainsBy, chainsExpected, gateAt}
 use Rattle.settings.specs.declared.Settings.{Settings}
 use Rattle.settings.specs.Settings.{gammaIn}
-use Rattle.asking.specs.declared.Ask.{Ask}
+use Rattle.asked_rooms.specs.declared.Ask.{Ask}
 use Rattle.asking.specs.Asked.{Lent}
 use Rattle.asking.specs.Values.{heldOf}
 

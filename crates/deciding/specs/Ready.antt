@@ -12,7 +12,7 @@ use Rattle.ledger_rows.specs.declared.layout.Past.{Past}
 use Rattle.settings.specs.declared.Policy.the-variants.{GoodputBudget, GatedAggregate}
 use Rattle.settings.specs.declared.Settings.{Settings}
 use Rattle.settings.specs.Settings.{gammaIn, usesCosts, usesSignals, isTrace}
-use Rattle.asking.specs.declared.Ask.{Ask}
+use Rattle.asked_rooms.specs.declared.Ask.{Ask}
 use Rattle.asking.specs.Asked.{Lent}
 
 -- the best depth as the loop finds it

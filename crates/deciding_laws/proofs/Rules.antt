@@ -26,7 +26,7 @@ use Rattle.settings.specs.declared.Policy.the-variants.{Fixed, GoodputBudget, G
 use Rattle.settings.specs.declared.Settings.{Settings}
 use Rattle.settings.specs.Settings.{cappedBy, gammaUnder, gammaIn, usesCosts, usesSignals, isTrace}
 use Rattle.rounds.specs.Signals.{areFinite}
-use Rattle.asking.specs.declared.Ask.{Ask}
+use Rattle.asked_rooms.specs.declared.Ask.{Ask}
 use Rattle.asking.specs.Asked.{Lent}
 use Rattle.deciding.specs.Deciding.{meanExpected, toward, allAt, each, allPut, chainsIn, decidedBy}
 use Rattle.gating.specs.Chains.{chainsExpected, gateAt}

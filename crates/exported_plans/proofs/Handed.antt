@@ -5,7 +5,7 @@ use Prim.Native.Nat.{ℕ}
 use borrow.Author.Tests.{eq-eqb, ne-eqb}
 use Rattle.ledger.specs.declared.answer.Decision.the-variants.{Nothing, Put}
 use Rattle.settings.specs.declared.Settings.{Settings}
-use Rattle.asking.specs.declared.Ask.{Ask}
+use Rattle.asked_rooms.specs.declared.Ask.{Ask}
 use Rattle.asking.specs.Asked.{Lent, askedRefusal}
 use Rattle.exported_plans.specs.Changes.{changeOf}
 

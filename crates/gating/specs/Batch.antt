@@ -15,7 +15,7 @@ use Rattle.block.specs.Block.{blockGate}
 use Rattle.trim.specs.Ragged.{raggedGate}
 use Rattle.settings.specs.declared.Settings.{Settings}
 use Rattle.settings.specs.Settings.{isTrace}
-use Rattle.asking.specs.declared.Ask.{Ask}
+use Rattle.asked_rooms.specs.declared.Ask.{Ask}
 use Rattle.gating.specs.Chains.{chainsExpected, gateAt}
 
 -- the batch's depth, the slots weighed, and the drafts

@@ -17,7 +17,7 @@ use Rattle.speculative.specs.declared.drafter.Rates.{Rates}
 use Rattle.switch_settings.specs.declared.MaxStep.{MaxStep}
 use Rattle.switch_settings.specs.declared.MaxStep.the-variants.{Unlimited, AtMost}
 use Rattle.switch_settings.specs.declared.SwitchConstraints.{SwitchConstraints}
-use Rattle.asking.specs.declared.Ask.{Ask}
+use Rattle.asked_rooms.specs.declared.Ask.{Ask}
 use Rattle.host.specs.declared.asked.HostSettings.{HostSettings}
 use Rattle.host.specs.declared.asked.HostAsk.{HostAsk}
 use Rattle.host.specs.Asked.{settingsFit, askFits, modelOf, policyOf, stepOf, sourceOf, drafterOf}

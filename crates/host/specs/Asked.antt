@@ -16,7 +16,7 @@ use Rattle.goodput.specs.declared.curve.Source.the-variants.{Roofline, Table}
 use Rattle.settings.specs.declared.Policy.{Policy}
 use Rattle.settings.specs.declared.Policy.the-variants.{Fixed, GoodputBudget, GatedBudget, GatedAggregate}
 use Rattle.settings.specs.declared.Settings.{Settings}
-use Rattle.asking.specs.declared.Ask.{Ask}
+use Rattle.asked_rooms.specs.declared.Ask.{Ask}
 use Rattle.host.specs.declared.asked.HostSettings.{HostSettings}
 use Rattle.host.specs.declared.asked.HostRates.{HostRates}
 use Rattle.host.specs.declared.asked.HostAsk.{HostAsk}

@@ -1,13 +1,15 @@
 // What a host is answered: the number of the refusal, 0 for none, and the figures, each 0 where there are none.
+use judged_plans::Planned;
 use ledger::answer::Answer;
 use ledger::answer::Count;
 use ledger::answer::Figure;
 use ledger::answer::Found;
 use ledger::answer::Stall;
-use planner::Planned;
+use ledger_rows::layout::ROOM;
 use speculative::drafter::DraftTime;
 ghost use mathlib.Core.Path.{_≡_};
 ghost use lib.Ieee.{binary64, ofBits};
+ghost use Rattle.ledger_rows.specs.Layout.{room};
 ghost use Rattle.host.specs.Answers.{answerOf, countOf, stallOf, meanOf, timeOf, foundOf, plannedOf, bankOf, tableOf};
 
 // The draws that a plan used and the slots that it weighed.
@@ -47,6 +49,13 @@ pub struct HostRead {
     pub row: u64,
     pub rows: u32,
     pub depth: u32,
+}
+
+// The words that a planner takes.
+pub fn room() -> usize
+    ensures { λ r. ⌜ r ≡ room ⌝ }
+{
+    ROOM
 }
 
 pub fn of_answer(answer: Answer) -> u64

@@ -25,16 +25,17 @@ use Rattle.settings.specs.declared.Settings.{Settings}
 use Rattle.settings.specs.Settings.{settingsRefusal, gammaIn, usesSignals, isTrace}
 use Rattle.rounds.specs.Signals.{areFinite}
 use Rattle.rounds.specs.declared.drawing.Drawn.the-variants.{Used}
-use Rattle.asking.specs.declared.Ask.{Ask}
+use Rattle.asked_rooms.specs.declared.Ask.{Ask}
 use Rattle.asking.specs.Asked.{Lent, tableOf, askedRefusal}
 use Rattle.asking.specs.Values.{heldOf}
 use Rattle.asking.proofs.Passed.{gamma-small, sequences-few, drafts-room, bank-rounds, bank-deep, bank-shallow, curve-room, curve-valued, roofline-room, table-rooms, table-lawful, held-valued}
 use Rattle.deciding.specs.Deciding.{decidedBy}
 use Rattle.deciding.specs.Ready.{Held, looped}
 use Rattle.deciding_laws.proofs.Rules.{Judged as Ruled, reads, loop-decides}
-use Rattle.planning.specs.Steps.{curveOf, drawn, signalsRefusal, best, putUnder}
+use Rattle.plan_draws.specs.Draws.{drawn}
+use Rattle.planning.specs.Steps.{curveOf, signalsRefusal, best, putUnder}
 use Rattle.planning.specs.Acting.{lentToAct, Priced, Judged, decidedPriced}
-use Rattle.planning.proofs.Batches.{all-indexed}
+use Rattle.plan_draws.proofs.Batches.{all-indexed}
 use Rattle.planning.proofs.Prices.{force-long}
 
 -- ---- tests

@@ -17,13 +17,14 @@ use Rattle.settings.specs.Settings.{settingsRefusal}
 use Rattle.rounds.specs.Drawing.{Batch}
 use Rattle.rounds.specs.declared.drawing.Drawn.{Drawn}
 use Rattle.rounds.specs.declared.drawing.Drawn.the-variants.{Used, Refused as NotDrawn}
-use Rattle.asking.specs.declared.Ask.{Ask}
+use Rattle.asked_rooms.specs.declared.Ask.{Ask}
 use Rattle.asking.specs.Asked.{Lent, askedRefusal}
 use Rattle.deciding.specs.Deciding.{decidedBy}
 use Rattle.deciding.specs.Ready.{lentOf}
-use Rattle.planning.specs.Steps.{unlessEither, drawnUnless, curveOf, drawn, drawnRefusal, signalsRefusal, best, putUnder}
-use Rattle.planning.specs.Acting.{Acted, actedBy, lentToDraw, decidedPriced}
-use Rattle.planning.proofs.Batches.{all-drawn, refusal-numbered, draws-same}
+use Rattle.plan_draws.specs.Draws.{unlessEither, drawnUnless, drawn, drawnRefusal, lentToDraw}
+use Rattle.planning.specs.Steps.{curveOf, signalsRefusal, best, putUnder}
+use Rattle.planning.specs.Acting.{Acted, actedBy, decidedPriced}
+use Rattle.plan_draws.proofs.Batches.{all-drawn, refusal-numbered, draws-same}
 use Rattle.judged_plans.specs.declared.Planned.the-variants.{Plan, Refused}
 use Rattle.judged_plans.specs.Plan.{Left, heldRefusal, planRefusal, made, unlessRefused, nothingPlanned, somePlanned, planned}
 use Rattle.judged_plans.proofs.Facts.{actLists, rules-priced}

@@ -12,10 +12,11 @@ use Rattle.settings.specs.declared.Settings.{Settings}
 use Rattle.settings.specs.Settings.{settingsRefusal}
 use Rattle.rounds.specs.declared.drawing.Drawn.{Drawn}
 use Rattle.rounds.specs.declared.drawing.Drawn.the-variants.{Used, Refused as NotDrawn}
-use Rattle.asking.specs.declared.Ask.{Ask}
+use Rattle.asked_rooms.specs.declared.Ask.{Ask}
 use Rattle.asking.specs.Asked.{Lent, askedRefusal}
 use Rattle.deciding.specs.Deciding.{Decided, decidedBy, totalOf}
-use Rattle.planning.specs.Steps.{curveOf, drawn, drawnRefusal, signalsRefusal, best, isPut}
+use Rattle.plan_draws.specs.Draws.{drawn, drawnRefusal}
+use Rattle.planning.specs.Steps.{curveOf, signalsRefusal, best, isPut}
 use Rattle.judged_plans.specs.declared.Planned.{Planned}
 use Rattle.judged_plans.specs.declared.Planned.the-variants.{Plan, Empty, Refused}
 

@@ -1,8 +1,8 @@
 // Plans of at least one sequence, whose settings and inputs are judged.
 use crate::Planned;
 use asking::Ask;
+use plan_draws::draws;
 use planning::acting;
-use planning::draws;
 use planning::judging;
 use rounds::drawing::Drawn;
 use settings::Settings;

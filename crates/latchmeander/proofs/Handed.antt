@@ -9,11 +9,11 @@ use Rattle.speculative.specs.declared.drafter.Rates.{Rates}
 use Rattle.speculative.specs.declared.drafter.DraftTime.{DraftTime}
 use Rattle.speculative.specs.declared.drafter.DraftTime.the-variants.{Refused as Untimed}
 use Rattle.speculative.specs.Drafter.{draftRagged}
-use Rattle.asking.specs.declared.Ask.{Ask}
+use Rattle.asked_rooms.specs.declared.Ask.{Ask}
 use Rattle.asking.specs.Asked.{Lent}
 use Rattle.ledger.specs.declared.answer.Count.{Count}
-use Rattle.planner.specs.declared.Round.the-variants.{Committed, NotPlanned}
-use Rattle.planner.specs.Small.{acceptedOf}
+use Rattle.verifies.specs.declared.Round.the-variants.{Committed, NotPlanned}
+use Rattle.verifies.specs.Accepted.{acceptedOf}
 use Rattle.bank_judge.specs.declared.Answer.{Answer as BankAnswer}
 use Rattle.bank.specs.Read.{Outcome as Bank}
 use Rattle.measured.specs.declared.Answer.{Answer as TableAnswer}

@@ -8,8 +8,8 @@ use Rattle.speculative.specs.Drafter.{draftRagged}
 use Rattle.asking.specs.Asked.{Lent}
 use Rattle.judged_plans.specs.declared.Planned.the-variants.{Refused}
 use Rattle.judged_plans.specs.Plan.{Left, planned}
-use Rattle.planner.specs.declared.Round.the-variants.{Committed, NotPlanned}
-use Rattle.planner.specs.Small.{acceptedOf}
+use Rattle.verifies.specs.declared.Round.the-variants.{Committed, NotPlanned}
+use Rattle.verifies.specs.Accepted.{acceptedOf}
 use Rattle.ledger.specs.declared.answer.Count.{Count}
 use Rattle.bank.specs.Read.{Outcome as Bank}
 use Rattle.measured.specs.Fill.{Outcome as Table}

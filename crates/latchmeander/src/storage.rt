@@ -3,7 +3,6 @@ use host::answers;
 use host::answers::HostCount;
 use host::answers::HostFigure;
 use host::answers::HostWorker;
-use ledger_rows::layout::ROOM;
 ghost use mathlib.Core.Path.{_≡_};
 ghost use Rattle.ledger_rows.specs.Layout.{room, secondsHeld, workersHeld, available};
 ghost use Rattle.ledger.specs.Calls.{emptied, collected, withdrawn, countOf as counted, seriesRead, dayFigure, workerOf};
@@ -15,7 +14,7 @@ ghost use Rattle.latchmeander.specs.Calls.{onFirst, seriesHanded};
 pub extern "C" fn latchmeander_room() -> usize
     ensures { λ r. ⌜ r ≡ room ⌝ }
 {
-    ROOM
+    answers::room()
 }
 
 // An empty planner.

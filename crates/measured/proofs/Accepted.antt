@@ -20,11 +20,11 @@ use Rattle.cost_rows.specs.Prune.{kept}
 use Rattle.cost_rows.proofs.Sorting.{sorted-length}
 use Rattle.cost_rows.proofs.Composed.{read-back, arranged, kept-fewer, over-over}
 use Rattle.cost_rows.proofs.Pruned.{stays-nonempty}
-use Rattle.measured.specs.declared.line.Line.{Line}
-use Rattle.measured.specs.declared.line.Line.the-variants.{Blank, Row as RowSaid, Refused as Wrong}
+use Rattle.table_line.specs.declared.line.Line.{Line}
+use Rattle.table_line.specs.declared.line.Line.the-variants.{Blank, Row as RowSaid, Refused as Wrong}
 use Rattle.measured.specs.declared.Answer.{Answer}
 use Rattle.measured.specs.declared.Answer.the-variants.{Table, Refused}
-use Rattle.measured.specs.Line.{lineRead}
+use Rattle.table_line.specs.Line.{lineRead}
 use Rattle.measured.specs.Judge.{headerRight, rowsIn, unlessRefused, judgeRows, judgeLines, judged}
 use Rattle.measured.specs.Fill.{rowOf, rowsOf, Put, PutAt, keptOver, Cleaned, cleanedTo, Outcome, leaves, answered, tableRead}
 use Rattle.measured.proofs.Laws.{some-left}

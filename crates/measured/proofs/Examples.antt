@@ -11,7 +11,7 @@ use Rattle.cost_rows.specs.Table.{over}
 use Rattle.cost_rows.specs.Order.{sorted, insert, earlier, before}
 use Rattle.cost_rows.specs.Prune.{kept, dropped, above}
 use Rattle.measured.specs.declared.Answer.the-variants.{Table, Refused}
-use Rattle.measured.specs.Line.{valuesRead, numbersRead, rowRead, lineRead}
+use Rattle.table_line.specs.Line.{valuesRead, numbersRead, rowRead, lineRead}
 use Rattle.measured.specs.Judge.{batchName, tokensName, secondsName, headerRight, judgeLines, judged}
 use Rattle.measured.specs.Fill.{rowsOf, Outcome, tableRead}
 

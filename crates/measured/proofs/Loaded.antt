@@ -24,11 +24,11 @@ use Rattle.cost_rows.proofs.Sorting.{sorted-length}
 use Rattle.cost_rows.proofs.Composed.{rows-read, kept-fewer, over-length}
 use Rattle.cost_rows.proofs.Pruned.{stays-nonempty}
 use Rattle.cost_rows.proofs.Ordered.{test, sorted-ordered, kept-ordered}
-use Rattle.measured.specs.declared.line.Line.{Line}
-use Rattle.measured.specs.declared.line.Line.the-variants.{Blank, Row as RowSaid, Refused as Wrong}
+use Rattle.table_line.specs.declared.line.Line.{Line}
+use Rattle.table_line.specs.declared.line.Line.the-variants.{Blank, Row as RowSaid, Refused as Wrong}
 use Rattle.measured.specs.declared.Answer.{Answer}
 use Rattle.measured.specs.declared.Answer.the-variants.{Table, Refused}
-use Rattle.measured.specs.Line.{wholeAt, decimalAt, valuesRead, numbersRead, rowRead, lineRead}
+use Rattle.table_line.specs.Line.{wholeAt, decimalAt, valuesRead, numbersRead, rowRead, lineRead}
 use Rattle.measured.specs.Judge.{headerRight, rowsIn, unlessRefused, judgeRows, judgeLines, judged, answerRefusal}
 use Rattle.measured.specs.Fill.{rowsOf, keptOver, cleanedTo, Outcome, leaves, answered, tableRead}
 use Rattle.cost_rows.specs.Lawful.{allInRange, lawful}

@@ -28,7 +28,7 @@ use Rattle.cost_rows.specs.Order.{earlier, insert, sorted}
 use Rattle.cost_rows.specs.Prune.{dropped, kept}
 use Rattle.cost_rows.proofs.Ordered.{test}
 use Rattle.cost_rows.specs.Lawful.{largest, inRange, allInRange}
-use Rattle.measured.specs.Line.{wholeAt, decimalAt, valuesRead, numbersRead, rowRead, lineRead}
+use Rattle.table_line.specs.Line.{wholeAt, decimalAt, valuesRead, numbersRead, rowRead, lineRead}
 use Rattle.measured.specs.Fill.{rowOf, rowsOf}
 
 -- ---- a decimal that is above zero

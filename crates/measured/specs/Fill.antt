@@ -10,11 +10,11 @@ use Rattle.text.specs.Lines.{lines}
 use Rattle.cost_rows.specs.Table.{Row, over}
 use Rattle.cost_rows.specs.Order.{sorted}
 use Rattle.cost_rows.specs.Prune.{kept}
-use Rattle.measured.specs.declared.line.Line.{Line}
-use Rattle.measured.specs.declared.line.Line.the-variants.{Blank, Row as RowSaid, Refused as Wrong}
+use Rattle.table_line.specs.declared.line.Line.{Line}
+use Rattle.table_line.specs.declared.line.Line.the-variants.{Blank, Row as RowSaid, Refused as Wrong}
 use Rattle.measured.specs.declared.Answer.{Answer}
 use Rattle.measured.specs.declared.Answer.the-variants.{Table, Refused}
-use Rattle.measured.specs.Line.{lineRead}
+use Rattle.table_line.specs.Line.{lineRead}
 use Rattle.measured.specs.Judge.{judged}
 
 -- the row that a line is, if it is one

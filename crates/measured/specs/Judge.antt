@@ -8,11 +8,11 @@ use Rattle.text.specs.Lines.{lines}
 use Rattle.text.specs.Fields.{fields, sameText}
 use Rattle.trimming.specs.Trim.{trimmed}
 use Rattle.blocks.specs.Blocks.{allAscii}
-use Rattle.measured.specs.declared.line.Line.{Line}
-use Rattle.measured.specs.declared.line.Line.the-variants.{Blank, Row, Refused as Wrong}
+use Rattle.table_line.specs.declared.line.Line.{Line}
+use Rattle.table_line.specs.declared.line.Line.the-variants.{Blank, Row, Refused as Wrong}
 use Rattle.measured.specs.declared.Answer.{Answer}
 use Rattle.measured.specs.declared.Answer.the-variants.{Table, Refused}
-use Rattle.measured.specs.Line.{lineRead}
+use Rattle.table_line.specs.Line.{lineRead}
 
 -- the rows that a text may have
 abbrev pub mostRows : ℕ

@@ -1,9 +1,9 @@
 // The judge: it reads a text and gives the first refusal, in the order of the rules, or how many rows there are. It writes the rows into columns of its caller's own, which no caller of `read` sees.
 use crate::Answer;
 use crate::MOST_ROWS;
-use crate::line;
-use crate::line::Line;
 use cost_rows::inner;
+use table_line::line;
+use table_line::line::Line;
 ghost use mathlib.Core.Path.{_≡_};
 ghost use mathlib.Core.List.{[], _∷_};
 ghost use Prim.Native.Nat.{_≤_};

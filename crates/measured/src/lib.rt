@@ -1,7 +1,6 @@
 // The measured cost table: rows with their draft depths, batches and seconds, read from a text.
 mod filling;
 mod judging;
-mod line;
 
 use cost_rows::inner;
 ghost use mathlib.Core.Path.{_≡_};

@@ -7,17 +7,12 @@ use ledger::answer::Stall;
 use settings::Settings;
 use speculative::drafter::DraftTime;
 use speculative::drafter::Rates;
+pub use verifies::Round;
 ghost use mathlib.Core.Path.{_≡_};
 ghost use Rattle.speculative.specs.Drafter.{draftRagged};
 ghost use Rattle.ledger.specs.Calls.{collected, withdrawn};
 ghost use Rattle.judged_plans.specs.Plan.{planned};
-ghost use Rattle.planner.specs.Small.{acceptedOf};
-
-// What a verify's round committed, if one was planned.
-pub enum Round {
-    Committed(u32),
-    NotPlanned,
-}
+ghost use Rattle.verifies.specs.Accepted.{acceptedOf};
 
 // A plan. `storage` is the planner's own; the drafts and the commits of the sequences are written to the fronts of `drafts`
 // and `commits`. Refused with the first of 12, 11, 16, 15, 13 or 14, 15 of the signals, 17, 18 and 19, and then nothing is written.
@@ -93,10 +88,7 @@ pub fn plan(
 pub fn accepted(draft: u32, round: Round) -> u32
     ensures { λ r. ⌜ r ≡ acceptedOf draft round ⌝ }
 {
-    match round {
-        Round::Committed(commits) => { if commits < draft { commits } else { draft } }
-        Round::NotPlanned => 0,
-    }
+    verifies::accepted(draft, round)
 }
 
 // The seconds that the drafter of the settings takes, where each sequence has its own width; 12, 11, 16, then 15.

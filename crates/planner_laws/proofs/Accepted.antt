@@ -16,11 +16,11 @@ use Rattle.ledger_laws.specs.Encode.{pastFrom}
 use Rattle.settings.specs.declared.Settings.{Settings}
 use Rattle.settings.specs.Settings.{settingsRefusal, gammaIn}
 use Rattle.ledger_rows.specs.declared.layout.Past.{Past}
-use Rattle.asking.specs.declared.Ask.{Ask}
+use Rattle.asked_rooms.specs.declared.Ask.{Ask}
 use Rattle.ledger_rows.specs.Layout.{room}
 use Rattle.asking.specs.Asked.{Lent, lengthsOf, costsValued, valuesRefusal}
-use Rattle.asking.specs.Rooms.{roomsRefusal}
-use Rattle.asking.specs.Sizes.{bankFits, tableFits, sizesRefusal}
+use Rattle.asked_rooms.specs.Rooms.{roomsRefusal}
+use Rattle.asked_rooms.specs.Sizes.{bankFits, tableFits, sizesRefusal}
 use Rattle.asking.specs.Values.{policyValued}
 use Rattle.judged_plans.specs.declared.Planned.{Planned}
 use Rattle.judged_plans.specs.declared.Planned.the-variants.{Empty}

@@ -11,9 +11,9 @@ use Rattle.settings.specs.declared.Settings.{Settings}
 use Rattle.settings.specs.Settings.{settingsRefusal, gammaIn}
 use Rattle.rounds.specs.declared.drawing.Drawn.{Drawn}
 use Rattle.rounds.specs.declared.drawing.Drawn.the-variants.{Used, Refused as NotDrawn}
-use Rattle.asking.specs.declared.Ask.{Ask}
+use Rattle.asked_rooms.specs.declared.Ask.{Ask}
 use Rattle.asking.specs.Asked.{Lent, lengthsOf, askedRefusal, valuesRefusal}
-use Rattle.asking.specs.Rooms.{costRooms, bankRooms, roomsRefusal}
+use Rattle.asked_rooms.specs.Rooms.{costRooms, bankRooms, roomsRefusal}
 use Rattle.deciding.specs.Deciding.{Decided, decidedBy}
 use Rattle.planner.specs.Plan.{Left, curveOf, drawn, signalsRefusal, best, planRefusal, made, unlessRefused, nothingPlanned, planned}
 

@@ -11,7 +11,7 @@ use Rattle.ledger_laws.specs.Encode.{secondsGiven}
 use Rattle.ledger_laws.proofs.Answers.{Kept, kept}
 use Rattle.ledger_laws.proofs.Shown.{Shown, shown}
 use Rattle.settings.specs.declared.Settings.{Settings}
-use Rattle.asking.specs.declared.Ask.{Ask}
+use Rattle.asked_rooms.specs.declared.Ask.{Ask}
 use Rattle.asking.specs.Asked.{Lent}
 use Rattle.planner.specs.Plan.{Left, drawn, planned}
 use Rattle.planner_laws.specs.Calls.{Call, run}

@@ -19,7 +19,7 @@ use Rattle.settings.specs.Settings.{isTrace}
 use Rattle.rounds.specs.Drawing.{Batch, sequenceThen, andUsed, analytic}
 use Rattle.rounds.specs.declared.drawing.Drawn.{Drawn}
 use Rattle.rounds.specs.declared.drawing.Drawn.the-variants.{Used, Refused as NotDrawn}
-use Rattle.asking.specs.declared.Ask.{Ask}
+use Rattle.asked_rooms.specs.declared.Ask.{Ask}
 use Rattle.asking.specs.Asked.{Lent}
 use Rattle.planner.specs.Plan.{drawnBy, drawn, planned}
 use Rattle.planner_laws.proofs.Used.{same-drawn}

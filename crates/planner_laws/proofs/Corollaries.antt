@@ -27,9 +27,9 @@ use Rattle.settings.specs.Settings.{settingsRefusal, gammaIn}
 use Rattle.rounds.specs.Drawing.{andUsed, replayed}
 use Rattle.rounds.specs.declared.drawing.Drawn.{Drawn}
 use Rattle.rounds.specs.declared.drawing.Drawn.the-variants.{Used, Refused as NotDrawn}
-use Rattle.asking.specs.declared.Ask.{Ask}
+use Rattle.asked_rooms.specs.declared.Ask.{Ask}
 use Rattle.asking.specs.Asked.{Lent, askedRefusal, valuesRefusal}
-use Rattle.asking.specs.Rooms.{roomsRefusal}
+use Rattle.asked_rooms.specs.Rooms.{roomsRefusal}
 use Rattle.deciding.specs.Deciding.{Decided, chainsIn, bestIn, decidedBy, totalOf}
 use Rattle.judged_plans.specs.declared.Planned.{Planned}
 use Rattle.judged_plans.specs.declared.Planned.the-variants.{Plan, Empty, Refused}

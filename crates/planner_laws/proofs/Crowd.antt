@@ -27,10 +27,10 @@ use Rattle.settings.specs.declared.Settings.{Settings}
 use Rattle.settings.specs.Settings.{settingsRefusal}
 use Rattle.rounds.specs.Drawing.{analytic}
 use Rattle.rounds.specs.declared.drawing.Drawn.the-variants.{Used}
-use Rattle.asking.specs.declared.Ask.{Ask}
+use Rattle.asked_rooms.specs.declared.Ask.{Ask}
 use Rattle.asking.specs.Asked.{Lent, lengthsOf, valuesRefusal}
-use Rattle.asking.specs.Sizes.{sizesRefusal}
-use Rattle.asking.specs.Rooms.{roomsRefusal}
+use Rattle.asked_rooms.specs.Sizes.{sizesRefusal}
+use Rattle.asked_rooms.specs.Rooms.{roomsRefusal}
 use Rattle.deciding.specs.Deciding.{decidedBy}
 use Rattle.judged_plans.specs.declared.Planned.the-variants.{Plan, Refused}
 use Rattle.judged_plans.specs.declared.Planned.{Planned}

@@ -32,7 +32,7 @@ use Rattle.settings.specs.declared.Policy.{Policy}
 use Rattle.settings.specs.declared.Policy.the-variants.{Fixed, GoodputBudget, GatedBudget, GatedAggregate}
 use Rattle.settings.specs.declared.Settings.{Settings}
 use Rattle.settings.specs.Settings.{gammaIn}
-use Rattle.asking.specs.declared.Ask.{Ask}
+use Rattle.asked_rooms.specs.declared.Ask.{Ask}
 use Rattle.asking.specs.Asked.{Lent}
 use Rattle.asking.specs.Values.{heldOf, heldValued, policyValued}
 use Rattle.deciding.specs.Deciding.{toward, allAt, allPut, meanExpected, chainsIn, bestIn, decidedBy}

@@ -18,10 +18,10 @@ use Rattle.settings.specs.declared.Policy.the-variants.{Fixed}
 use Rattle.settings.specs.declared.Settings.{Settings}
 use Rattle.settings.specs.Settings.{settingsRefusal}
 use Rattle.rounds.specs.Drawing.{analytic}
-use Rattle.asking.specs.declared.Ask.{Ask}
+use Rattle.asked_rooms.specs.declared.Ask.{Ask}
 use Rattle.asking.specs.Asked.{Lent, valuesRefusal}
-use Rattle.asking.specs.Sizes.{sizesRefusal}
-use Rattle.asking.specs.Rooms.{roomsRefusal}
+use Rattle.asked_rooms.specs.Sizes.{sizesRefusal}
+use Rattle.asked_rooms.specs.Rooms.{roomsRefusal}
 use Rattle.deciding.specs.Deciding.{decidedBy}
 use Rattle.judged_plans.specs.declared.Planned.the-variants.{Plan}
 use Rattle.planner.specs.Plan.{drawnBy, drawn, signalsRefusal, planned}

@@ -7,9 +7,9 @@ use borrow.Author.Tests.{eq-eqb, lt-leb}
 use lib.Dec.{leb, eqb}
 use Rattle.settings.specs.declared.Settings.{Settings}
 use Rattle.settings.specs.Settings.{settingsRefusal}
-use Rattle.asking.specs.declared.Ask.{Ask}
+use Rattle.asked_rooms.specs.declared.Ask.{Ask}
 use Rattle.asking.specs.Asked.{Lent, askedRefusal}
-use Rattle.asking.specs.Sizes.{sizesRefusal}
+use Rattle.asked_rooms.specs.Sizes.{sizesRefusal}
 use Rattle.judged_plans.specs.declared.Planned.the-variants.{Refused}
 use Rattle.planner.specs.Plan.{planRefusal, nothingPlanned, planned}
 

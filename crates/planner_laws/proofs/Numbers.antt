@@ -33,13 +33,13 @@ use Rattle.settings.specs.Settings.{settingsRefusal, gammaIn, usesSignals, isTr
 use Rattle.rounds.specs.Drawing.{andUsed, sequenceThen, analytic, replayed}
 use Rattle.rounds.specs.declared.drawing.Drawn.{Drawn}
 use Rattle.rounds.specs.declared.drawing.Drawn.the-variants.{Used, Refused as NotDrawn}
-use Rattle.asking.specs.declared.Ask.{Ask}
+use Rattle.asked_rooms.specs.declared.Ask.{Ask}
 use Rattle.rounds.specs.Signals.{areFinite}
-use Rattle.asking.specs.declared.Lengths.{Lengths}
+use Rattle.asked_rooms.specs.declared.Lengths.{Lengths}
 use Rattle.asking.specs.Asked.{Lent, lengthsOf, costsValued, askedRefusal, valuesRefusal}
 use Rattle.asking.specs.Values.{policyValued}
-use Rattle.asking.specs.Rooms.{ownRooms, costRooms, bankRooms, roomsRefusal}
-use Rattle.asking.specs.Sizes.{bankFits, tableFits, sizesRefusal}
+use Rattle.asked_rooms.specs.Rooms.{ownRooms, costRooms, bankRooms, roomsRefusal}
+use Rattle.asked_rooms.specs.Sizes.{bankFits, tableFits, sizesRefusal}
 use Rattle.deciding.specs.Deciding.{Decided, decidedBy}
 use Rattle.judged_plans.specs.declared.Planned.the-variants.{Refused}
 use Rattle.planner.specs.Plan.{Left, depthOf, curveOf, drawnBy, drawn, drawnRefusal, signalsRefusal, best, isPut, planRefusal, made, unlessRefused, nothingPlanned, planned}

@@ -18,7 +18,7 @@ use Rattle.ledger_laws.proofs.Forth.{record-read}
 use Rattle.settings.specs.declared.Policy.{Policy}
 use Rattle.settings.specs.declared.Policy.the-variants.{Fixed, GoodputBudget, GatedBudget, GatedAggregate}
 use Rattle.settings.specs.declared.Settings.{Settings}
-use Rattle.asking.specs.declared.Ask.{Ask}
+use Rattle.asked_rooms.specs.declared.Ask.{Ask}
 use Rattle.asking.specs.Asked.{Lent}
 use Rattle.planner.specs.Plan.{isPut, planned}
 use Rattle.planner_laws.specs.Calls.{Call, plan, withdraw, leaves, run}

@@ -9,7 +9,7 @@ use lib.Dec.{eqb}
 use Rattle.ledger_workers.specs.Workers.{pastOf}
 use Rattle.settings.specs.Settings.{settingsRefusal}
 use Rattle.settings.specs.declared.Settings.{Settings}
-use Rattle.asking.specs.declared.Ask.{Ask}
+use Rattle.asked_rooms.specs.declared.Ask.{Ask}
 use Rattle.asking.specs.Asked.{Lent}
 use Rattle.rounds.specs.declared.drawing.Drawn.{Drawn}
 use Rattle.rounds.specs.declared.drawing.Drawn.the-variants.{Used, Refused as NotDrawn}

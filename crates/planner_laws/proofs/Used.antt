@@ -29,10 +29,10 @@ use Rattle.settings.specs.declared.Policy.the-variants.{Fixed, GoodputBudget, G
 use Rattle.settings.specs.declared.Settings.{Settings}
 use Rattle.settings.specs.Settings.{gammaIn, usesCosts, usesSignals, isTrace}
 use Rattle.rounds.specs.Signals.{roundChains}
-use Rattle.asking.specs.declared.Ask.{Ask}
+use Rattle.asked_rooms.specs.declared.Ask.{Ask}
 use Rattle.asking.specs.Asked.{Lent, tableOf, lengthsOf, costsValued, valuesRefusal}
 use Rattle.asking.specs.Values.{pricesValued, loadedValued, policyValued}
-use Rattle.asking.specs.Rooms.{priceRooms, loadedRoom, costRooms, signalRooms, bankRooms}
+use Rattle.asked_rooms.specs.Rooms.{priceRooms, loadedRoom, costRooms, signalRooms, bankRooms}
 use Rattle.gating.specs.Chains.{chainsBy, gateAt}
 use Rattle.deciding.specs.Deciding.{meanExpected, each, bestIn, decidedBy}
 use Rattle.planner_laws.specs.Used.{isTable, readsLoaded, readsCurve, SameLists, SameUsed}

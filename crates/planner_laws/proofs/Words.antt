@@ -31,10 +31,10 @@ use Rattle.settings.specs.declared.Settings.{Settings}
 use Rattle.settings.specs.Settings.{settingsRefusal, gammaIn}
 use Rattle.rounds.specs.declared.drawing.Drawn.{Drawn}
 use Rattle.rounds.specs.declared.drawing.Drawn.the-variants.{Used, Refused as NotDrawn}
-use Rattle.asking.specs.declared.Ask.{Ask}
-use Rattle.asking.specs.declared.Lengths.{Lengths}
+use Rattle.asked_rooms.specs.declared.Ask.{Ask}
+use Rattle.asked_rooms.specs.declared.Lengths.{Lengths}
 use Rattle.asking.specs.Asked.{Lent, lengthsOf, askedRefusal}
-use Rattle.asking.specs.Rooms.{priceRooms, loadedRoom, signalRooms, bankRooms, roomsRefusal}
+use Rattle.asked_rooms.specs.Rooms.{priceRooms, loadedRoom, signalRooms, bankRooms, roomsRefusal}
 use Rattle.deciding.specs.Deciding.{Decided, decidedBy, totalOf}
 use Rattle.judged_plans.specs.declared.Planned.{Planned}
 use Rattle.judged_plans.specs.declared.Planned.the-variants.{Empty}

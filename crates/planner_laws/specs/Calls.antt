@@ -3,7 +3,7 @@ use mathlib.Core.List.{List, [], _∷_}
 use Prim.Native.Nat.{ℕ}
 use Rattle.ledger.specs.Calls.{collected, withdrawn}
 use Rattle.settings.specs.declared.Settings.{Settings}
-use Rattle.asking.specs.declared.Ask.{Ask}
+use Rattle.asked_rooms.specs.declared.Ask.{Ask}
 use Rattle.asking.specs.Asked.{Lent}
 use Rattle.planner.specs.Plan.{planned}
 

@@ -18,10 +18,10 @@ use Rattle.settings.specs.declared.Settings.{Settings}
 use Rattle.settings.specs.Settings.{settingsRefusal}
 use Rattle.rounds.specs.declared.drawing.Drawn.{Drawn}
 use Rattle.rounds.specs.declared.drawing.Drawn.the-variants.{Used, Refused as NotDrawn}
-use Rattle.asking.specs.declared.Ask.{Ask}
+use Rattle.asked_rooms.specs.declared.Ask.{Ask}
 use Rattle.asking.specs.Asked.{Lent, lengthsOf, valuesRefusal}
-use Rattle.asking.specs.Sizes.{sizesRefusal}
-use Rattle.asking.specs.Rooms.{roomsRefusal}
+use Rattle.asked_rooms.specs.Sizes.{sizesRefusal}
+use Rattle.asked_rooms.specs.Rooms.{roomsRefusal}
 use Rattle.deciding.specs.Deciding.{Decided, toward, bestIn, decidedBy, totalOf}
 use Rattle.judged_plans.specs.declared.Planned.{Planned}
 use Rattle.judged_plans.specs.declared.Planned.the-variants.{Plan, Empty, Refused}

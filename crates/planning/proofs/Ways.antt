@@ -6,18 +6,14 @@ use Prim.Native.Nat.{ℕ}
 use native.Mathlib.Omega.{arith}
 use lib.ListN.{take}
 use lib.Ieee.{Float}
-use Rattle.acceptance.specs.declared.AcceptanceModel.{AcceptanceModel}
-use Rattle.acceptance.specs.declared.AcceptanceModel.the-variants.{Constant, PerPosition, Trace}
 use Rattle.goodput.specs.declared.curve.Source.{Source}
 use Rattle.goodput.specs.declared.curve.Source.the-variants.{Roofline, Table}
 use Rattle.settings.specs.declared.Settings.{Settings}
 use Rattle.settings.specs.Settings.{gammaIn, usesSignals, isTrace}
-use Rattle.rounds.specs.Drawing.{Batch, analytic, replayed}
 use Rattle.rounds.specs.Signals.{areFinite}
-use Rattle.asking.specs.declared.Ask.{Ask}
+use Rattle.asked_rooms.specs.declared.Ask.{Ask}
 use Rattle.deciding.specs.Ready.{lentOf}
-use Rattle.planning.specs.Steps.{drawnBy, drawnUnless, signalsRefusal}
-use Rattle.planning.specs.Acting.{lentToDraw}
+use Rattle.planning.specs.Steps.{signalsRefusal}
 
 -- ---- a test that is known
 pub test-is : (x y t : Bool) → x ≡ y → x ≡ t → y ≡ t
@@ -31,23 +27,6 @@ both-sources x e f = let z : _≡_ {A = ℕ} 0 1 = cc in absurd (let w : ⊥ = o
 
 pub both-tests : {A : Type 0} (x : Bool) → x ≡ false → x ≡ true → A
 both-tests x e f = let z : _≡_ {A = ℕ} 0 1 = cc in absurd (let w : ⊥ = omega arith in w)
-
--- ---- the rounds, by the model
-module _ (late : ℕ) (s : Settings) (a : Ask) (positions : List Float) (bank : List ℕ) (draws : List Float) (indices : List ℕ) (m : AcceptanceModel) (old : List ℕ) (r : Batch) where
-  abbrev pub drawnUnder : Batch
-  drawnUnder = drawnBy s a (lentToDraw positions bank draws indices) m
-
-  pub drawn-constant : (alpha : Float) → m ≡ Constant alpha → r ≡ drawnUnless late (analytic m positions (s .gamma) (a .sequences) draws) old → r ≡ drawnUnless late drawnUnder old
-  unfolding drawnBy
-  drawn-constant alpha e h = let q : analytic m positions (s .gamma) (a .sequences) draws ≡ drawnUnder = rw e in h ∙ ap (λ (b : Batch). drawnUnless late b old) q
-
-  pub drawn-positions : m ≡ PerPosition → r ≡ drawnUnless late (analytic m positions (s .gamma) (a .sequences) draws) old → r ≡ drawnUnless late drawnUnder old
-  unfolding drawnBy
-  drawn-positions e h = let q : analytic m positions (s .gamma) (a .sequences) draws ≡ drawnUnder = rw e in h ∙ ap (λ (b : Batch). drawnUnless late b old) q
-
-  pub drawn-trace : m ≡ Trace → r ≡ drawnUnless late (replayed bank (a .rounds) (a .sequences) indices) old → r ≡ drawnUnless late drawnUnder old
-  unfolding drawnBy
-  drawn-trace e h = let q : replayed bank (a .rounds) (a .sequences) indices ≡ drawnUnder = rw e in h ∙ ap (λ (b : Batch). drawnUnless late b old) q
 
 -- ---- the signals of the drawn rounds
 module _ (s : Settings) (a : Ask) (signals : List Float) (indices : List ℕ) (used : Bool) (u : used ≡ (usesSignals (s .policy) && isTrace (s .model))) where

@@ -24,7 +24,7 @@ use Rattle.ledger.specs.Calls.{stepJudged, workerJudged, recorded}
 use Rattle.settings.specs.declared.Policy.{Policy}
 use Rattle.settings.specs.declared.Policy.the-variants.{Fixed, GoodputBudget, GatedBudget, GatedAggregate}
 use Rattle.settings.specs.declared.Settings.{Settings}
-use Rattle.asking.specs.declared.Ask.{Ask}
+use Rattle.asked_rooms.specs.declared.Ask.{Ask}
 use Rattle.asking.specs.Asked.{Lent}
 use Rattle.deciding.specs.Deciding.{Decided, decidedBy, totalOf}
 use Rattle.planning.specs.Steps.{putUnder, curveOf}

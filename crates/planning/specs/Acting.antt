@@ -18,7 +18,7 @@ use Rattle.ledger.specs.Calls.{stepJudged, workerJudged, recorded}
 use Rattle.settings.specs.declared.Policy.the-variants.{GoodputBudget, GatedAggregate}
 use Rattle.settings.specs.declared.Settings.{Settings}
 use Rattle.settings.specs.Settings.{gammaIn, usesCosts, usesSignals, isTrace}
-use Rattle.asking.specs.declared.Ask.{Ask}
+use Rattle.asked_rooms.specs.declared.Ask.{Ask}
 use Rattle.asking.specs.Asked.{Lent}
 use Rattle.deciding.specs.Deciding.{Decided, decidedBy, totalOf}
 use Rattle.deciding.specs.Ready.{Held, looped}
@@ -43,21 +43,6 @@ actedBy a ws d = record {
 }
 
 -- ---- the lists that a step reads; the others are left out
-abbrev pub lentToDraw : List Float → List ℕ → List Float → List ℕ → Lent
-lentToDraw positions bankCommits draws indices = record {
-  positions = positions;
-  roofline = [];
-  depths = [];
-  batches = [];
-  seconds = [];
-  loaded = [];
-  bankCommits = bankCommits;
-  signals = [];
-  bankCurve = [];
-  draws = draws;
-  indices = indices;
-}
-
 -- all but the commits of the bank and the draws
 abbrev pub lentToAct : List Float → List Float → List ℕ → List ℕ → List Float → List Float → List Float → List Float → List ℕ → Lent
 lentToAct positions roofline depths batches seconds loaded signals bankCurve indices = record {

@@ -10,11 +10,11 @@ use Rattle.ledger.specs.declared.answer.Answer.{Answer}
 use Rattle.ledger.specs.declared.answer.Stall.{Stall}
 use Rattle.ledger.specs.Calls.{collected, withdrawn}
 use Rattle.settings.specs.declared.Settings.{Settings}
-use Rattle.asking.specs.declared.Ask.{Ask}
+use Rattle.asked_rooms.specs.declared.Ask.{Ask}
 use Rattle.judged_plans.specs.declared.Planned.{Planned}
-use Rattle.planner.specs.declared.Round.{Round}
+use Rattle.verifies.specs.declared.Round.{Round}
 use Rattle.planner.specs.Plan.{Left, planned}
-use Rattle.planner.specs.Small.{acceptedOf}
+use Rattle.verifies.specs.Accepted.{acceptedOf}
 use Rattle.unique.specs.Only.{OnlyOne, OnlyTwo, OnlyFour}
 use Rattle.unique.proofs.Law.{four-once, once, pair-once}
 

@@ -3,7 +3,7 @@ use mathlib.Core.Path.{refl, _∙_}
 use denote.Ref.{now}
 use Rattle.refusals.proofs.First.{goes-first, goes-next}
 use Rattle.asking.specs.Asked.{valuesRefusal, askedRefusal}
-use Rattle.asking.proofs.Tests.{none}
+use Rattle.asked_rooms.proofs.Tests.{none}
 use Rattle.asking.proofs.Passed.{rooms-storage, columns-fit}
 use borrow.Author.Needs.{needs}
 use Rattle.asking.proofs.asked_refusal.Statement.{statement}

@@ -4,7 +4,7 @@ use lib.Ieee.{lt, ofBits}
 use denote.Ref.{now}
 use Rattle.speculative.specs.declared.drafter.DrafterCost.{DrafterCost}
 use Rattle.asked_values.specs.Values.{loadedValued}
-use Rattle.asked_values.proofs.Cases.{of-case}
+use Rattle.settings.proofs.Cases.{of-case}
 use Rattle.asked_values.proofs.Judges.{loaded-tested}
 use borrow.Author.Needs.{needs}
 use Rattle.asked_values.proofs.inner.are_loaded.Statement.{statement}

@@ -8,7 +8,7 @@ use Rattle.chains.specs.Tests.{allOf, isPrice}
 use Rattle.cost_rows.specs.Table.{zip}
 use Rattle.asked_values.specs.Columns.{columnsFit}
 use Rattle.asked_values.specs.Values.{pricesValued}
-use Rattle.asked_values.proofs.Cases.{of-case}
+use Rattle.settings.proofs.Cases.{of-case}
 use Rattle.asked_values.proofs.Judges.{table-tested}
 use borrow.Author.Needs.{needs}
 use Rattle.asked_values.proofs.inner.are_priced.Statement.{statement}

@@ -6,7 +6,7 @@ use denote.Ref.{now}
 use Rattle.acceptance.specs.declared.AcceptanceModel.{AcceptanceModel}
 use Rattle.chains.specs.Tests.{allOf, isAccepted}
 use Rattle.asked_values.specs.Values.{curveValued}
-use Rattle.asked_values.proofs.Cases.{of-case}
+use Rattle.settings.proofs.Cases.{of-case}
 use borrow.Author.Needs.{needs}
 use Rattle.asked_values.proofs.inner.is_curve.Statement.{statement}
 use Rattle.asked_values.proofs.inner.is_curve.Tie as tie

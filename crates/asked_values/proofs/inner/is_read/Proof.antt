@@ -3,7 +3,7 @@ use denote.Ref.{now}
 use Rattle.ledger_workers.specs.Workers.{pastOf}
 use Rattle.settings.specs.declared.Policy.{Policy}
 use Rattle.asked_values.specs.Values.{policyValued}
-use Rattle.asked_values.proofs.Cases.{of-case}
+use Rattle.settings.proofs.Cases.{of-case}
 use borrow.Author.Needs.{needs}
 use Rattle.asked_values.proofs.inner.is_read.Statement.{statement}
 use Rattle.asked_values.proofs.inner.is_read.Tie as tie

@@ -1,7 +1,7 @@
 -- `are_costs` meets its contract. Assumes nothing.
 use mathlib.Core.Path.{sym, _∙_}
 use borrow.Author.Tests.{not-true, not-false, eq-eqb}
-use Rattle.asking.proofs.Tests.{fails, goes-on, where-used, where-unused, used, refuses, none}
+use Rattle.asked_rooms.proofs.Tests.{fails, goes-on, where-used, where-unused, used, refuses, none}
 use borrow.Author.Needs.{needs}
 use Rattle.asking.proofs.values.are_costs.Statement.{statement}
 use Rattle.asking.proofs.values.are_costs.Tie as tie

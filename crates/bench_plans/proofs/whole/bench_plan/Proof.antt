@@ -2,7 +2,7 @@
 use mathlib.Core.Path.{ap, _∙_}
 use Rattle.settings.specs.declared.Settings.{Settings}
 use Rattle.speculative.specs.declared.drafter.DrafterCost.{DrafterCost}
-use Rattle.asking.specs.declared.Ask.{Ask}
+use Rattle.asked_rooms.specs.declared.Ask.{Ask}
 use Rattle.asking.specs.Asked.{Lent}
 use Rattle.judged_plans.specs.Plan.{Left, planned}
 use Rattle.bench_plans.specs.Figures.{drafterOf}

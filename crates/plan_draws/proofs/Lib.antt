@@ -1,0 +1,4 @@
+pub mod Fronts
+pub mod Ways
+pub mod Batches
+pub mod Late
