@@ -1,9 +1,13 @@
 //! Trace banks: `bank::read` against `TraceBank::load` of a text that is in memory already.
 use crate::dice::Dice;
 use crate::ours::Bank;
-use crate::side::{by_side_made, time_of};
+use crate::report::{grouped, Report};
+use crate::side::by_side_made;
 use oracle::config::TraceBank;
 use std::cell::RefCell;
+
+/// The most rounds that a bank has.
+const MOST: usize = 65_536;
 
 /// The header `commits,category,a0..`, and signals of six decimals.
 fn bank_text(rounds: usize, depth: usize) -> String {
@@ -40,8 +44,16 @@ fn equal(ours: &Bank, rust: &TraceBank) -> bool {
     sum(ours.commits.iter().copied(), floats) == theirs
 }
 
-/// The time for each byte of a text.
-fn reading(rounds: usize, depth: usize) {
+/// The time for each byte of a text. The goal is that of the longest; the shorter ones show how it grows.
+fn reading(report: &mut Report, rounds: usize, depth: usize) {
+    let family = format!("banks: a byte of a text, by its rounds of {depth}");
+    let name = format!(
+        "banks: a byte of a text of {} rounds of {depth}",
+        grouped(rounds)
+    );
+    if !report.wants(&name) {
+        return;
+    }
     let text = bank_text(rounds, depth);
     std_lent::fs::lend_text("lent:bank", &text);
     let bank = RefCell::new(Bank::with_room(rounds, depth));
@@ -50,8 +62,7 @@ fn reading(rounds: usize, depth: usize) {
         &bank.borrow(),
         &TraceBank::load("lent:bank").unwrap()
     ));
-    let name = format!("a bank of {rounds} rounds of {depth}, each byte");
-    by_side_made(
+    let times = by_side_made(
         &name,
         text.len(),
         || bank.borrow_mut().read(&text),
@@ -59,17 +70,16 @@ fn reading(rounds: usize, depth: usize) {
         |()| TraceBank::load("given").unwrap(),
         |bank| bank.rounds.len() as u64,
     );
-    let freed = time_of(&|| text.clone(), &drop);
-    println!(
-        "  of the Rust's, {:.2} ns is giving the text back",
-        freed.as_secs_f64() * 1e9 / text.len() as f64
-    );
+    if rounds == MOST {
+        report.row(&name, Some(0.7), times);
+    }
+    report.size(&family, rounds, times);
 }
 
-pub fn readings() {
+pub fn readings(report: &mut Report) {
     for depth in [8, 64] {
-        for rounds in [1_000, 8_000, 65_536] {
-            reading(rounds, depth);
+        for rounds in [1_000, 8_000, MOST] {
+            reading(report, rounds, depth);
         }
     }
 }

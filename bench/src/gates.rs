@@ -2,10 +2,11 @@
 use crate::batches::{drafters, lent_experts, rates, sequences, settings, Sequences, BW, PEAK};
 use crate::dice::Dice;
 use crate::plans::{self, Batch, Drafter, Rates};
-use crate::side::by_side;
+use crate::report::{grouped, Report};
+use crate::side::{by_side, Times};
 use oracle::config::SpeculativeConfig;
 use oracle::simulation::spec::probe::Gate;
-use std::cell::RefCell;
+use std::cell::{LazyCell, RefCell};
 
 type Ours = fn(&Batch, u32, &Drafter, &Rates, &mut [u32]) -> u64;
 type Rust = fn(&Gate, &[Vec<f64>]) -> (Vec<u32>, u64);
@@ -33,46 +34,119 @@ fn rust_gate<'a>(batch: &'a Sequences, cfg: &'a SpeculativeConfig) -> Gate<'a> {
     }
 }
 
-/// Both gates over batches of one size, one line for each drafter.
-fn gates(n: usize, gamma: usize, count: usize, holes: bool, rates: &Rates) {
-    let dice = &mut Dice(7 + n as u64 * 3 + u64::from(holes));
-    let batches: Vec<Sequences> = (0..count)
-        .map(|_| sequences(n, gamma, holes, dice))
-        .collect();
-    let widths = RefCell::new(vec![0; n]);
-    let prices = if holes { "with holes" } else { "whole" };
-    for (gate, ours, rust) in GATES {
-        for (name, drafter, cost) in drafters() {
-            let cfg = settings(gamma, cost);
-            by_side(
-                &format!(
-                    "the {gate} gate, {n} sequences of {gamma}, prices {prices}, {name} drafter"
-                ),
-                count,
-                || {
-                    batches.iter().fold(0, |sum, b| {
-                        let widths = &mut *widths.borrow_mut();
-                        let weighed = ours(&b.ours, gamma as u32, &drafter, rates, widths);
-                        assert_ne!(weighed, u64::MAX, "the {gate} gate is refused");
-                        with_widths(sum, widths)
-                    })
-                },
-                || {
-                    batches.iter().fold(0, |sum, b| {
-                        with_widths(sum, &rust(&rust_gate(b, &cfg), &b.chains).0)
-                    })
-                },
+/// The batches of one size: how many sequences, of how many slots each, and whether prices have holes.
+struct Size {
+    n: usize,
+    gamma: usize,
+    count: usize,
+    holes: bool,
+}
+
+impl Size {
+    fn batches(&self) -> Vec<Sequences> {
+        let dice = &mut Dice(7 + self.n as u64 * 3 + u64::from(self.holes));
+        (0..self.count)
+            .map(|_| sequences(self.n, self.gamma, self.holes, dice))
+            .collect()
+    }
+}
+
+/// One gate over the same batches on both sides, with one drafter.
+fn gate(
+    name: &str,
+    (ours, rust): (Ours, Rust),
+    batches: &[Sequences],
+    (drafter, cfg): (&Drafter, &SpeculativeConfig),
+    rates: &Rates,
+) -> Times {
+    let widths = RefCell::new(vec![0; batches[0].chains.len()]);
+    by_side(
+        name,
+        batches.len(),
+        || {
+            batches.iter().fold(0, |sum, b| {
+                let widths = &mut *widths.borrow_mut();
+                let weighed = ours(&b.ours, cfg.gamma, drafter, rates, widths);
+                assert_ne!(weighed, u64::MAX, "{name}: the gate is refused");
+                with_widths(sum, widths)
+            })
+        },
+        || {
+            batches.iter().fold(0, |sum, b| {
+                with_widths(sum, &rust(&rust_gate(b, cfg), &b.chains).0)
+            })
+        },
+    )
+}
+
+/// Both gates over batches of one size, one row for each drafter.
+fn gates(report: &mut Report, size: &Size, rates: &Rates) {
+    let batches = LazyCell::new(|| size.batches());
+    let prices = if size.holes { "with holes" } else { "whole" };
+    for (kind, ours, rust) in GATES {
+        for (drafter_name, drafter, cost) in drafters() {
+            let name = format!(
+                "gates: {kind}, {} sequences of {}, prices {prices}, {drafter_name} drafter",
+                grouped(size.n),
+                size.gamma
             );
+            if report.wants(&name) {
+                let cfg = settings(size.gamma, cost);
+                let times = gate(&name, (ours, rust), &batches, (&drafter, &cfg), rates);
+                report.row(&name, Some(0.8), times);
+            }
         }
     }
 }
 
-pub fn both() {
+/// What one sequence, or one slot of it, costs a gate at each of the sizes, with whole prices and a fraction drafter.
+fn grows(report: &mut Report, by: &str, sizes: &[(usize, usize)], rates: &Rates) {
+    let [(_, drafter, cost), ..] = drafters();
+    for (kind, ours, rust) in GATES {
+        let name = format!("gates: {kind}, {by}");
+        if !report.wants(&name) {
+            continue;
+        }
+        for &(n, gamma) in sizes {
+            let holes = false;
+            let count = (1 + 20_000 / (n * gamma)).min(400);
+            let batches = Size {
+                n,
+                gamma,
+                count,
+                holes,
+            }
+            .batches();
+            let cfg = settings(gamma, cost);
+            let whole = gate(&name, (ours, rust), &batches, (&drafter, &cfg), rates);
+            let grown = if by == BY_SEQUENCES { n } else { gamma };
+            report.size(&name, grown, whole.over(grown));
+        }
+    }
+}
+
+const BY_SEQUENCES: &str = "a sequence of 8, by the sequences";
+const BY_GAMMA: &str = "a depth of 64 sequences, by gamma";
+
+pub fn both(report: &mut Report) {
     let loaded = lent_experts();
     let rates = rates(&loaded);
     for holes in [false, true] {
-        gates(8, 4, 400, holes, &rates);
-        gates(64, 8, 60, holes, &rates);
-        gates(1_024, 64, 3, holes, &rates);
+        for (n, gamma, count) in [(8, 4, 400), (64, 8, 60), (1_024, 64, 3)] {
+            let size = Size {
+                n,
+                gamma,
+                count,
+                holes,
+            };
+            gates(report, &size, &rates);
+        }
     }
+    grows(
+        report,
+        BY_SEQUENCES,
+        &[(8, 8), (64, 8), (256, 8), (1_024, 8)],
+        &rates,
+    );
+    grows(report, BY_GAMMA, &[(64, 4), (64, 16), (64, 64)], &rates);
 }

@@ -2,10 +2,11 @@
 use crate::batches::{drafters, lent_experts, rates, sequences, settings, Sequences, BW, PEAK};
 use crate::dice::Dice;
 use crate::plans::{self, Drafter, Rates};
-use crate::side::by_side;
+use crate::report::Report;
+use crate::side::{by_side, Times};
 use oracle::config::DrafterCost;
 use oracle::simulation::spec::probe::{self, Gate};
-use std::cell::RefCell;
+use std::cell::{LazyCell, RefCell};
 use std::hint::black_box;
 
 const GAMMA: usize = 64;
@@ -19,15 +20,19 @@ fn with_bits(sum: u64, values: &[f64]) -> u64 {
         .fold(sum, |sum, x| sum.wrapping_mul(3).wrapping_add(x.to_bits()))
 }
 
-fn expected() {
+fn expected(report: &mut Report) {
     const BATCHES: usize = 4;
+    let name = "goodput: the expected acceptance at 65 depths of 1,024 chains of 64";
+    if !report.wants(name) {
+        return;
+    }
     let dice = &mut Dice(2);
     let batches: Vec<Sequences> = (0..BATCHES)
         .map(|_| sequences(1_024, GAMMA, false, dice))
         .collect();
     let out = RefCell::new([0.0; GAMMA + 1]);
-    by_side(
-        "the expected acceptance at 65 depths of 1,024 chains of 64",
+    let times = by_side(
+        name,
         BATCHES,
         || {
             batches.iter().fold(0, |sum, b| {
@@ -42,13 +47,20 @@ fn expected() {
             })
         },
     );
+    report.row(name, Some(1.0), times);
 }
 
 const DEPTHS: usize = 500;
 const N: usize = 64;
 
 /// The best depths of expected values and price curves.
-fn depths(name: &str, drafter: &Drafter, cost: DrafterCost, rates: &Rates, asked: &[Asked]) {
+fn depths(
+    name: &str,
+    drafter: &Drafter,
+    cost: DrafterCost,
+    rates: &Rates,
+    asked: &[Asked],
+) -> Times {
     let cfg = settings(GAMMA, cost);
     let ours = |expected: &[f64], curve: &[f64]| {
         plans::depth(expected, curve, GAMMA as u32, N as u32, drafter, rates)
@@ -70,32 +82,37 @@ fn depths(name: &str, drafter: &Drafter, cost: DrafterCost, rates: &Rates, asked
             sum.wrapping_mul(3).wrapping_add(u64::from(depth))
         })
     };
-    by_side(name, asked.len(), || each(&ours), || each(&rust));
+    by_side(name, asked.len(), || each(&ours), || each(&rust))
 }
 
 /// For each drafter the same 500 batches.
-fn best_depths(holes: bool) {
+fn best_depths(report: &mut Report, holes: bool) {
     let loaded = lent_experts();
     let rates = rates(&loaded);
-    let dice = &mut Dice(3 + u64::from(holes));
-    let asked: Vec<Asked> = (0..DEPTHS)
-        .map(|_| sequences(N, GAMMA, holes, dice))
-        .map(|b| {
-            (
-                probe::expected_by_depth(&b.chains, GAMMA as u32),
-                b.ours.curve,
-            )
-        })
-        .collect();
+    let asked = LazyCell::new(|| -> Vec<Asked> {
+        let dice = &mut Dice(3 + u64::from(holes));
+        (0..DEPTHS)
+            .map(|_| sequences(N, GAMMA, holes, dice))
+            .map(|b| {
+                (
+                    probe::expected_by_depth(&b.chains, GAMMA as u32),
+                    b.ours.curve,
+                )
+            })
+            .collect()
+    });
     let prices = if holes { "with holes" } else { "whole" };
     for (kind, drafter, cost) in drafters() {
-        let name = format!("the best of 65 depths, prices {prices}, {kind} drafter");
-        depths(&name, &drafter, cost, &rates, &asked);
+        let name = format!("goodput: the best of 65 depths, prices {prices}, {kind} drafter");
+        if report.wants(&name) {
+            let times = depths(&name, &drafter, cost, &rates, &asked);
+            report.row(&name, Some(1.0), times);
+        }
     }
 }
 
-pub fn goodput() {
-    expected();
-    best_depths(false);
-    best_depths(true);
+pub fn goodput(report: &mut Report) {
+    expected(report);
+    best_depths(report, false);
+    best_depths(report, true);
 }

@@ -1,8 +1,9 @@
 //! A plan's bookkeeping and the series of 4,096 seconds, against the Rust's planner.
 use crate::batches::{drafters, settings};
 use crate::dice::Dice;
-use crate::plans::{Series, Storage, SECONDS};
-use crate::side::{by_side, by_side_made, by_side_ready};
+use crate::report::{grouped, Report};
+use crate::side::{by_side, by_side_made, by_side_ready, Times};
+use crate::storage::{Series, Storage, SECONDS};
 use oracle::simulation::spec::SpecPlanner;
 use std::cell::RefCell;
 
@@ -60,7 +61,14 @@ fn held(seconds: usize) -> (Storage, SpecPlanner) {
 }
 
 /// Plans of an empty planner that go on second by second, `each` of them a second, until 4,096 seconds are held.
-fn ascending(each: usize) {
+fn ascending(report: &mut Report, each: usize, goal: Option<f64>) {
+    let name = format!(
+        "ledger: a plan counted, {each} a second, the seconds ascending up to {}",
+        grouped(SECONDS)
+    );
+    if !report.wants(&name) {
+        return;
+    }
     let seconds: Vec<u64> = (0..SECONDS * each)
         .map(|k| START + (k / each) as u64)
         .collect();
@@ -68,8 +76,8 @@ fn ascending(each: usize) {
     record_ours(&mut storage, &seconds);
     record_rust(&mut rust, &seconds);
     assert_equal(&storage, &rust);
-    by_side_ready(
-        &format!("a plan counted, {each} a second, the seconds ascending up to {SECONDS}"),
+    let times = by_side_ready(
+        &name,
         seconds.len(),
         (Storage::fresh, |storage: &mut Storage| {
             record_ours(storage, &seconds)
@@ -78,19 +86,33 @@ fn ascending(each: usize) {
             record_rust(planner, &seconds)
         }),
     );
+    report.row(&name, goal, times);
 }
 
 /// Plans in seconds that are held already, of `rows` that are held.
-fn known(name: &str, rows: usize, seconds: &[u64]) {
+fn known(name: &str, rows: usize, seconds: &[u64]) -> Times {
     let (storage, rust) = held(rows);
     let (storage, rust) = (RefCell::new(storage), RefCell::new(rust));
-    by_side(
-        &format!("a plan counted, {name} of {rows} held"),
+    let times = by_side(
+        name,
         seconds.len(),
         || record_ours(&mut storage.borrow_mut(), seconds),
         || record_rust(&mut rust.borrow_mut(), seconds),
     );
     assert_equal(&storage.borrow(), &rust.borrow());
+    times
+}
+
+/// A plan counted among 4,096 seconds, where it stands as `name` says.
+fn among_all(report: &mut Report, name: &str, goal: Option<f64>, seconds: &[u64]) {
+    let name = format!(
+        "ledger: a plan counted, {name} of {} held",
+        grouped(SECONDS)
+    );
+    if report.wants(&name) {
+        let times = known(&name, SECONDS, seconds);
+        report.row(&name, goal, times);
+    }
 }
 
 /// `count` seconds, each one of `rows`.
@@ -101,36 +123,53 @@ fn random(rows: usize, count: usize) -> Vec<u64> {
         .collect()
 }
 
-fn series() {
+/// A plan counted in any of the seconds, by how many are held.
+fn grows(report: &mut Report, plans: usize) {
+    let name = "ledger: a plan counted in any second, by the seconds held";
+    if !report.wants(name) {
+        return;
+    }
+    for rows in [64, 512, SECONDS] {
+        let times = known(name, rows, &random(rows, plans));
+        report.size(name, rows, times);
+    }
+}
+
+fn series(report: &mut Report) {
+    let name = format!("ledger: a second of the series of {}", grouped(SECONDS));
+    if !report.wants(&name) {
+        return;
+    }
     let (storage, planner) = held(SECONDS);
     assert_equal(&storage, &planner);
     let ours = RefCell::new(Series::with_room(SECONDS));
-    by_side_made(
-        &format!("the series of {SECONDS} seconds, each second"),
+    let times = by_side_made(
+        &name,
         SECONDS,
         || ours.borrow_mut().read(&storage),
         || (),
         |()| planner.depth_series(),
         |rows| rows.len() as u64,
     );
+    report.row(&name, None, times);
 }
 
-pub fn ledger() {
+pub fn ledger(report: &mut Report) {
     const PLANS: usize = 20_000;
     let last = START + SECONDS as u64 - 1;
-    ascending(16);
-    ascending(1);
-    known("the newest second again", SECONDS, &[last; PLANS]);
+    ascending(report, 16, Some(1.0));
+    ascending(report, 1, None);
+    among_all(report, "the newest second again", Some(1.0), &[last; PLANS]);
     let every: Vec<u64> = (START..=last).collect();
-    known("the seconds in order, once each,", SECONDS, &every);
+    among_all(report, "the seconds in order, once each,", None, &every);
     let back = [last, last - HOUR].repeat(PLANS / 2);
-    known(
+    among_all(
+        report,
         "the newest second and an hour back in turn,",
-        SECONDS,
+        None,
         &back,
     );
-    for rows in [64, 512, SECONDS] {
-        known("any second", rows, &random(rows, PLANS));
-    }
-    series();
+    among_all(report, "any second", None, &random(SECONDS, PLANS));
+    grows(report, PLANS);
+    series(report);
 }

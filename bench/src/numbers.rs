@@ -1,6 +1,7 @@
 //! Decimals in text: `numeral::decimal` against `str::parse::<f64>`.
 use crate::dice::Dice;
 use crate::ours;
+use crate::report::Report;
 use crate::side::by_side;
 
 const COUNT: usize = 1_000_000;
@@ -24,16 +25,21 @@ fn texts(seed: u64) -> (String, Vec<usize>) {
     (text, ends)
 }
 
-pub fn decimals() {
+pub fn decimals(report: &mut Report) {
+    let name = "decimals: a number of 3 to 15 digits, 0 to 10 of them decimals";
+    if !report.wants(name) {
+        return;
+    }
     let (text, ends) = texts(1);
     let each = |read: &dyn Fn(&str) -> u64| {
         ends.windows(2)
             .fold(0u64, |sum, w| sum.wrapping_add(read(&text[w[0]..w[1]])))
     };
-    by_side(
-        "decimals, 3 to 15 digits, 0 to 10 decimals",
+    let times = by_side(
+        name,
         COUNT,
         || each(&|t| ours::decimal(t.as_bytes()).to_bits()),
         || each(&|t| t.parse::<f64>().unwrap().to_bits()),
     );
+    report.row(name, Some(1.0), times);
 }

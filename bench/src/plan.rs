@@ -1,5 +1,6 @@
 //! A whole plan of the proved planner, across its C boundary.
-use crate::plans::{Drafter, Storage};
+use crate::plans::Drafter;
+use crate::storage::Storage;
 
 extern "C" {
     fn bench_plan(
@@ -100,65 +101,30 @@ pub struct Plans {
 
 impl Plans {
     /// The draws used, with drafts and commits at the fronts of the buffers; 2^64 - 1 where the plan is refused.
-    pub fn plan(
-        &mut self,
-        settings: &Settings,
-        lent: &Lent,
-        ask: &Ask,
-        storage: &mut Storage,
-    ) -> u64 {
-        let (&[a, b], &[c, d, e]) = (&settings.drafter.sizes, &settings.drafter.counts);
+    #[rustfmt::skip]
+    pub fn plan(&mut self, settings: &Settings, lent: &Lent, ask: &Ask, storage: &mut Storage) -> u64 {
+        let Settings { gamma, model, alpha, policy, cooldown, cost_ms, drafter } = *settings;
+        let ([a, b], [c, d, e]) = (drafter.sizes, drafter.counts);
         let words = storage.words();
         unsafe {
             bench_plan(
-                settings.gamma,
-                settings.model,
-                settings.alpha,
-                settings.policy,
-                settings.cooldown,
-                settings.cost_ms,
-                settings.drafter.kind,
-                a,
-                b,
-                c,
-                d,
-                e,
-                ask.worker,
-                ask.sequences as u32,
-                ask.end,
-                ask.peak,
-                ask.bw,
-                lent.seconds.len(),
-                lent.depth,
-                lent.bank_commits.len() as u32,
-                std::ptr::NonNull::dangling().as_ptr(),
-                0,
-                lent.roofline.as_ptr(),
-                lent.roofline.len(),
-                lent.depths.as_ptr(),
-                lent.depths.len(),
-                lent.batches.as_ptr(),
-                lent.batches.len(),
-                lent.seconds.as_ptr(),
-                lent.seconds.len(),
-                lent.loaded.as_ptr(),
-                lent.loaded.len(),
-                lent.bank_commits.as_ptr(),
-                lent.bank_commits.len(),
-                lent.signals.as_ptr(),
-                lent.signals.len(),
-                lent.bank_curve.as_ptr(),
-                lent.bank_curve.len(),
-                ask.draws.as_ptr(),
-                ask.draws.len(),
-                ask.indices.as_ptr(),
-                ask.indices.len(),
-                words.as_mut_ptr(),
-                words.len(),
-                self.drafts.as_mut_ptr(),
-                self.drafts.len(),
-                self.commits.as_mut_ptr(),
-                self.commits.len(),
+                gamma, model, alpha, policy, cooldown, cost_ms, drafter.kind, a, b, c, d, e,
+                ask.worker, ask.sequences as u32, ask.end, ask.peak, ask.bw,
+                lent.seconds.len(), lent.depth, lent.bank_commits.len() as u32,
+                std::ptr::NonNull::dangling().as_ptr(), 0,
+                lent.roofline.as_ptr(), lent.roofline.len(),
+                lent.depths.as_ptr(), lent.depths.len(),
+                lent.batches.as_ptr(), lent.batches.len(),
+                lent.seconds.as_ptr(), lent.seconds.len(),
+                lent.loaded.as_ptr(), lent.loaded.len(),
+                lent.bank_commits.as_ptr(), lent.bank_commits.len(),
+                lent.signals.as_ptr(), lent.signals.len(),
+                lent.bank_curve.as_ptr(), lent.bank_curve.len(),
+                ask.draws.as_ptr(), ask.draws.len(),
+                ask.indices.as_ptr(), ask.indices.len(),
+                words.as_mut_ptr(), words.len(),
+                self.drafts.as_mut_ptr(), self.drafts.len(),
+                self.commits.as_mut_ptr(), self.commits.len(),
             )
         }
     }

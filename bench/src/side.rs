@@ -1,19 +1,52 @@
 //! Two sides that do the same work, timed turn and turn about.
 use crate::clock::Clock;
+use crate::report::grouped;
 use std::hint::black_box;
 use std::time::Duration;
 
 const TURNS: usize = 31;
 
-/// Both answer a sum over all their answers, which has to be the same: so neither skips any work.
-pub fn by_side(name: &str, count: usize, ours: impl Fn() -> u64, rust: impl Fn() -> u64) {
-    assert_eq!(ours(), rust(), "{name}: the two sides answer differently");
-    let (mut a, mut b) = (Vec::new(), Vec::new());
-    for _ in 0..TURNS {
-        a.push(time(&ours));
-        b.push(time(&rust));
+/// The nanoseconds that each side takes for one unit of its work.
+#[derive(Clone, Copy)]
+pub struct Times {
+    pub ours: f64,
+    pub rust: f64,
+}
+
+impl Times {
+    pub fn ratio(self) -> f64 {
+        self.ours / self.rust
     }
-    tell(name, count, median(a), median(b));
+
+    /// The times of each of `parts` equal parts.
+    #[cfg(feature = "rust")]
+    pub fn over(self, parts: usize) -> Times {
+        Times {
+            ours: self.ours / parts as f64,
+            rust: self.rust / parts as f64,
+        }
+    }
+
+    /// The two times and their ratio, as the cells of a table.
+    pub fn cells(self) -> String {
+        let (ours, rust) = (time_text(self.ours), time_text(self.rust));
+        format!("{ours} | {rust} | {:.2}", self.ratio())
+    }
+}
+
+fn time_text(nanoseconds: f64) -> String {
+    match nanoseconds {
+        ns if ns < 10.0 => format!("{ns:.2} ns"),
+        ns if ns < 1e3 => format!("{ns:.1} ns"),
+        ns if ns < 1e5 => format!("{:.2} µs", ns / 1e3),
+        ns => format!("{} µs", grouped((ns / 1e3).round() as usize)),
+    }
+}
+
+/// Both answer a sum over all their answers, which has to be the same: so neither skips any work.
+pub fn by_side(name: &str, count: usize, ours: impl Fn() -> u64, rust: impl Fn() -> u64) -> Times {
+    assert_eq!(ours(), rust(), "{name}: the two sides answer differently");
+    in_turn(count, || time(&ours), || time(&rust))
 }
 
 /// The same, where each side works on something that is made ready for each of its turns outside the clock.
@@ -23,15 +56,14 @@ pub fn by_side_ready<Ours, Rust>(
     count: usize,
     ours: (impl Fn() -> Ours, impl Fn(&mut Ours) -> u64),
     rust: (impl Fn() -> Rust, impl Fn(&mut Rust) -> u64),
-) {
+) -> Times {
     let (answer, wanted) = (ours.1(&mut ours.0()), rust.1(&mut rust.0()));
     assert_eq!(answer, wanted, "{name}: the two sides answer differently");
-    let (mut a, mut b) = (Vec::new(), Vec::new());
-    for _ in 0..TURNS {
-        a.push(time_ready(&ours.0, &ours.1));
-        b.push(time_ready(&rust.0, &rust.1));
-    }
-    tell(name, count, median(a), median(b));
+    in_turn(
+        count,
+        || time_ready(&ours.0, &ours.1),
+        || time_ready(&rust.0, &rust.1),
+    )
 }
 
 /// The same, where the Rust takes what it works on and makes something new: getting ready for its turn
@@ -44,25 +76,24 @@ pub fn by_side_made<Given, Made>(
     ready: impl Fn() -> Given,
     rust: impl Fn(Given) -> Made,
     sum: impl Fn(&Made) -> u64,
-) {
+) -> Times {
     let answer = sum(&rust(ready()));
     assert_eq!(ours(), answer, "{name}: the two sides answer differently");
-    let (mut a, mut b) = (Vec::new(), Vec::new());
-    for _ in 0..TURNS {
-        a.push(time(&ours));
-        b.push(time_made(&ready, &rust));
-    }
-    tell(name, count, median(a), median(b));
+    in_turn(count, || time(&ours), || time_made(&ready, &rust))
 }
 
-fn tell(name: &str, count: usize, ours: Duration, rust: Duration) {
-    let each = |t: Duration| t.as_secs_f64() * 1e9 / count as f64;
-    println!(
-        "{name}: ours {:.2} ns, the Rust {:.2} ns each, ratio {:.2}",
-        each(ours),
-        each(rust),
-        each(ours) / each(rust)
-    );
+/// The median of each side's turns, for one of `count` units.
+fn in_turn(count: usize, ours: impl Fn() -> Duration, rust: impl Fn() -> Duration) -> Times {
+    let (mut a, mut b) = (Vec::new(), Vec::new());
+    for _ in 0..TURNS {
+        a.push(ours());
+        b.push(rust());
+    }
+    let each = |turns: Vec<Duration>| median(turns).as_secs_f64() * 1e9 / count as f64;
+    Times {
+        ours: each(a),
+        rust: each(b),
+    }
 }
 
 fn time(work: &impl Fn() -> u64) -> Duration {
@@ -71,10 +102,11 @@ fn time(work: &impl Fn() -> u64) -> Duration {
     start.elapsed()
 }
 
-/// The median time of a work that takes what was made ready for it.
+/// The median time of a work, for one of `count` units.
 #[cfg(feature = "rust")]
-pub fn time_of<Given, Made>(ready: &impl Fn() -> Given, work: &impl Fn(Given) -> Made) -> Duration {
-    median((0..TURNS).map(|_| time_made(ready, work)).collect())
+pub fn time_of(count: usize, work: impl Fn() -> u64) -> f64 {
+    let turns = (0..TURNS).map(|_| time(&work)).collect();
+    median(turns).as_secs_f64() * 1e9 / count as f64
 }
 
 #[cfg(feature = "rust")]

@@ -1,59 +1,76 @@
 -- `lent::are_short` meets its contract: where the patterns so far are small, what was passed is in range. Assumes nothing.
-use Prim.Native.Nat.{_≤_, _<_, _+_, _-_}
-use mathlib.Core.Path.{_≡_}
-use mathlib.Core.Bool.{true}
+use Prim.Native.Nat.{_≤_, _+_, _-_}
 use native.Mathlib.Omega.{arith}
 use borrow.Author.Tests.{ltb-true}
 use lib.ListN.{length}
-use Rattle.cost_lookup.proofs.Small.{Passed, At, small-left, passed-next, both-halves}
+use Rattle.float.proofs.Classes.{clash}
+use Rattle.cost_lookup.proofs.Small.{Last, Front, Back, small-left, passed-next, all-quarters}
 use borrow.Author.Needs.{needs}
 use Rattle.cost_lookup.proofs.lent.are_short.Statement.{statement}
 use Rattle.cost_lookup.proofs.lent.are_short.Tie as tie
 
 abbrev Inv-loop : tie.InvT-loop
-Inv-loop seconds n half low₀ high₀ i₀ low high i = (i ≤ half) × (n ≤ length seconds) × (half + half ≤ n) × (n ≤ half + half + 1) × (low < 4611686018427387904 → At seconds (n - 1) ≡ true) × Passed (λ k. At seconds k) low i × Passed (λ k. At seconds (half + k)) high i
+Inv-loop seconds n quarter low₀ high₀ i₀ low high i = (i ≤ quarter) × (n ≤ length seconds) × (quarter + quarter + quarter + quarter ≤ n) × (n ≤ quarter + quarter + quarter + quarter + 3) × Last seconds n low × Front seconds quarter low i × Back seconds quarter high i
 
 abbrev μ-loop : tie.MeasureT-loop
-μ-loop seconds n half low₀ high₀ i₀ low high i = half - i
+μ-loop seconds n quarter low₀ high₀ i₀ low high i = quarter - i
 
 returns : tie.Need-returns Inv-loop μ-loop
-returns c = λ h k l. absurd (omega arith)
+returns c = λ h. clash h
 
-sub-pattern : tie.Need-sub-pattern Inv-loop μ-loop
-sub-pattern c = search needs
-
-mul-pattern : tie.Need-mul-pattern Inv-loop μ-loop
-mul-pattern c = search needs
-
-shared-slice-read-pattern : tie.Need-shared-slice-read-pattern Inv-loop μ-loop
-shared-slice-read-pattern c = search needs
-
-pattern-requires : tie.Need-pattern-requires Inv-loop μ-loop
-pattern-requires c κs = search needs
+last-three-requires : tie.Need-last-three-requires Inv-loop μ-loop
+last-three-requires c κs = search needs
 
 loop-holds : tie.Need-loop-holds Inv-loop μ-loop
-loop-holds c = (omega arith, omega arith, omega arith, omega arith, c .pattern .ensures, λ h k l. absurd (omega arith), λ h k l. absurd (omega arith))
+loop-holds c = (omega arith, omega arith, omega arith, omega arith, c .last-three .ensures, λ h k l. absurd (omega arith), λ h k l. absurd (omega arith))
 
-mul-pattern-2 : tie.Need-mul-pattern-2 Inv-loop μ-loop
-mul-pattern-2 c = search needs
+mul-pair : tie.Need-mul-pair Inv-loop μ-loop
+mul-pair c = search needs
 
-shared-slice-read-pattern-2 : tie.Need-shared-slice-read-pattern-2 Inv-loop μ-loop
-shared-slice-read-pattern-2 c = search needs
+shared-slice-read-pair : tie.Need-shared-slice-read-pair Inv-loop μ-loop
+shared-slice-read-pair c = search needs
 
-pattern-requires-2 : tie.Need-pattern-requires-2 Inv-loop μ-loop
-pattern-requires-2 c κs = search needs
+add-pair : tie.Need-add-pair Inv-loop μ-loop
+add-pair c = search needs
 
-add-pattern : tie.Need-add-pattern Inv-loop μ-loop
-add-pattern c = search needs
+mul-pair-2 : tie.Need-mul-pair-2 Inv-loop μ-loop
+mul-pair-2 c = search needs
 
-mul-pattern-3 : tie.Need-mul-pattern-3 Inv-loop μ-loop
-mul-pattern-3 c = search needs
+shared-slice-read-pair-2 : tie.Need-shared-slice-read-pair-2 Inv-loop μ-loop
+shared-slice-read-pair-2 c = search needs
 
-shared-slice-read-pattern-3 : tie.Need-shared-slice-read-pattern-3 Inv-loop μ-loop
-shared-slice-read-pattern-3 c = search needs
+pair-requires : tie.Need-pair-requires Inv-loop μ-loop
+pair-requires c κs = search needs
 
-pattern-requires-3 : tie.Need-pattern-requires-3 Inv-loop μ-loop
-pattern-requires-3 c κs = search needs
+add-pair-2 : tie.Need-add-pair-2 Inv-loop μ-loop
+add-pair-2 c = search needs
+
+add-pair-3 : tie.Need-add-pair-3 Inv-loop μ-loop
+add-pair-3 c = search needs
+
+mul-pair-3 : tie.Need-mul-pair-3 Inv-loop μ-loop
+mul-pair-3 c = search needs
+
+shared-slice-read-pair-3 : tie.Need-shared-slice-read-pair-3 Inv-loop μ-loop
+shared-slice-read-pair-3 c = search needs
+
+add-pair-4 : tie.Need-add-pair-4 Inv-loop μ-loop
+add-pair-4 c = search needs
+
+add-pair-5 : tie.Need-add-pair-5 Inv-loop μ-loop
+add-pair-5 c = search needs
+
+add-pair-6 : tie.Need-add-pair-6 Inv-loop μ-loop
+add-pair-6 c = search needs
+
+mul-pair-4 : tie.Need-mul-pair-4 Inv-loop μ-loop
+mul-pair-4 c = search needs
+
+shared-slice-read-pair-4 : tie.Need-shared-slice-read-pair-4 Inv-loop μ-loop
+shared-slice-read-pair-4 c = search needs
+
+pair-requires-2 : tie.Need-pair-requires-2 Inv-loop μ-loop
+pair-requires-2 c κs = search needs
 
 add-i : tie.Need-add-i Inv-loop μ-loop
 add-i c = search needs
@@ -63,13 +80,13 @@ loop-less c = search needs
 
 loop-again : tie.Need-loop-again Inv-loop μ-loop
 loop-again c =
-    let v = c .before .before .before .before .before .loop .inv in
-    (omega arith, v .1, v .2, v .3, λ h. v .4 (small-left _ _ h), passed-next _ _ _ (c .before .before .before .before .before .loop .i) (v .5) (c .before .before .pattern2 .ensures), passed-next _ _ _ (c .before .before .before .before .before .loop .i) (v .6) (c .pattern3 .ensures))
+    let v = c .before .before .before .before .before .before .before .loop .inv in
+    (omega arith, v .1, v .2, v .3, λ h. v .4 (small-left _ _ h), passed-next _ _ _ _ (c .before .before .before .before .before .before .before .loop .i) (v .5) (c .before .before .before .pair .ensures), passed-next _ _ _ _ (c .before .before .before .before .before .before .before .loop .i) (v .6) (c .pair2 .ensures))
 
 returns-2 : tie.Need-returns-2 Inv-loop μ-loop
 returns-2 c =
     let v = c .before .loop .inv in
-    λ h. both-halves (c .before .before .before .before .before .before .args .seconds .now) (c .before .before .before .before .before .before .args .n) _ (c .before .loop .low) (c .before .loop .high) (c .before .loop .i) (v .2) (v .3) (c .loop-test .left) (v .4) (v .5) (v .6) (ltb-true _ _ h)
+    λ h. all-quarters (c .before .before .before .before .before .args .seconds .now) (c .before .before .before .before .before .args .n) _ (c .before .loop .low) (c .before .loop .high) (c .before .loop .i) (v .3) (c .loop-test .left) (v .4) (v .5) (v .6) (ltb-true _ _ h)
 
 pub are-short-spec : {M : Type 1} → statement M
 are-short-spec =
@@ -78,18 +95,24 @@ are-short-spec =
     Inv-loop
     μ-loop
     returns
-    sub-pattern
-    mul-pattern
-    shared-slice-read-pattern
-    pattern-requires
+    last-three-requires
     loop-holds
-    mul-pattern-2
-    shared-slice-read-pattern-2
-    pattern-requires-2
-    add-pattern
-    mul-pattern-3
-    shared-slice-read-pattern-3
-    pattern-requires-3
+    mul-pair
+    shared-slice-read-pair
+    add-pair
+    mul-pair-2
+    shared-slice-read-pair-2
+    pair-requires
+    add-pair-2
+    add-pair-3
+    mul-pair-3
+    shared-slice-read-pair-3
+    add-pair-4
+    add-pair-5
+    add-pair-6
+    mul-pair-4
+    shared-slice-read-pair-4
+    pair-requires-2
     add-i
     loop-less
     loop-again
