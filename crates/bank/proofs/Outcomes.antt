@@ -1,5 +1,5 @@
 -- What reading a bank leaves, by what the judge says. Assumes nothing.
-use mathlib.Core.Path.{_≡_, refl, sym, ap, _∙_, subst}
+use mathlib.Core.Path.{_≡_, sym, ap, _∙_, subst}
 use mathlib.Core.List.{List, []}
 use Prim.Native.Nat.{ℕ, suc, _-_, _≤_}
 use lib.ListN.{length, getD, drop}
@@ -10,7 +10,7 @@ use Rattle.text.specs.Fields.{fields}
 use Rattle.bank_judge.specs.declared.Answer.{Answer}
 use Rattle.bank_judge.specs.declared.Answer.the-variants.{Bank, Refused}
 use Rattle.bank_judge.specs.Judge.{judged}
-use Rattle.bank_fill.specs.Fill.{commitsOf, signalsOf, Accepted}
+use Rattle.bank_fill.specs.Fill.{commitsOf, signalsOf}
 use Rattle.bank_curve.specs.Curve.{curveFrom, over}
 use Rattle.bank.specs.Read.{Outcome, filled, bankRead}
 use Rattle.bank_fill.proofs.Accepted.{accepted, commits-length, curve-length}

@@ -1,6 +1,6 @@
 -- What a trace bank's text is refused for, over the list of its lines and the list of a line's fields. A refusal's number is 0 where nothing is wrong.
 use Prim.Native.Nat.{ℕ, suc, _+_, _-_, _/_, min}
-use mathlib.Core.Bool.{Bool, true, _&&_, cond}
+use mathlib.Core.Bool.{_&&_, cond}
 use mathlib.Core.List.{List, [], _∷_}
 use lib.Dec.{leb, ltb, eqb}
 use lib.ListN.{length, getD, drop}

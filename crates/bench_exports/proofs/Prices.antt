@@ -1,10 +1,9 @@
 -- A price out of the 65, by whether there is such a depth. Assumes nothing.
-use mathlib.Core.Path.{_≡_, ap}
-use mathlib.Core.List.{List}
+use mathlib.Core.Path.{_≡_}
 use Prim.Native.Nat.{ℕ, _≤_, _<_}
 use borrow.Author.Tests.{lt-ltb, le-ltb}
 use lib.ListN.{getD}
-use lib.Ieee.{Float, nan, binary64, ofBits}
+use lib.Ieee.{nan, binary64, ofBits}
 use Rattle.cost_lookup.specs.declared.answer.PriceCurve.{PriceCurve}
 use Rattle.bench_exports.specs.Figures.{priceAt}
 

@@ -1,10 +1,9 @@
 -- Worked examples of the definitions, computed. Assumes nothing.
 use mathlib.Core.Path.{_≡_, refl}
-use mathlib.Core.Bool.{true, false}
 use mathlib.Core.List.{List, [], _∷_}
 use Prim.Native.Nat.{ℕ}
 use lib.ListN.{getD}
-use lib.Ieee.{Float, nan, inf, binary64, ofBits, ofInt, isNan, lt, le, neg, add, sub, mul, div}
+use lib.Ieee.{Float, nan, binary64, ofBits, ofInt, isNan, lt, le, neg, add, sub, mul, div}
 use Rattle.float.specs.Floats.{f0, f1, f2, infinity, maxOf, isFinite}
 use Rattle.float.specs.Range.{inSignedRange}
 use Rattle.step_times.specs.declared.Time.the-variants.{Seconds, Unmeasured, Refused}

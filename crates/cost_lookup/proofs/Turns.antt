@@ -12,7 +12,7 @@ use lib.Ieee.{Float, nan}
 use Rattle.cost_rows.specs.Table.{Row, zip}
 use Rattle.cost_rows.specs.Order.{before, earlier, falls, ordered}
 use Rattle.cost_rows.specs.Lawful.{inRange, allInRange}
-use Rattle.nearest_row.proofs.Rows.{rowAt, zip-next, zip-length}
+use Rattle.cost_rows.proofs.Rows.{rowAt, zip-next, zip-length}
 
 -- ---- the order, with the depth and the batch of the row in front held
 

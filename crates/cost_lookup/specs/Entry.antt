@@ -1,6 +1,6 @@
 -- What the entry points answer of three lent columns: the number of a refusal, or what the rows say. Assumes nothing.
 use Prim.Native.Nat.{ℕ, zero, suc, min}
-use mathlib.Core.Bool.{Bool, cond}
+use mathlib.Core.Bool.{cond}
 use mathlib.Core.List.{List}
 use lib.Dec.{ltb}
 use lib.ListN.{length, replicate}
@@ -17,7 +17,7 @@ use Rattle.batch_ranges.specs.declared.MaxBatch.{MaxBatch}
 use Rattle.batch_ranges.specs.declared.MaxBatch.the-variants.{Batch, Unmeasured as NoBatch, Refused as BatchRefused}
 use Rattle.cost_lookup.specs.declared.answer.PriceCurve.{PriceCurve}
 use Rattle.refusals.specs.Refusals.{firstOf}
-use Rattle.cost_rows.specs.Table.{Row, most, zip}
+use Rattle.cost_rows.specs.Table.{most, zip}
 use Rattle.cost_rows.specs.Lawful.{lawful}
 use Rattle.step_times.specs.Times.{stepTime}
 use Rattle.batch_ranges.specs.Range.{hasDraft, rangeOf, maxBatch}

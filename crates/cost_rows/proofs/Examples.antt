@@ -1,6 +1,6 @@
 -- Worked examples of the definitions, computed. Assumes nothing.
 use mathlib.Core.Path.{_≡_, refl}
-use mathlib.Core.List.{List, [], _∷_}
+use mathlib.Core.List.{[], _∷_}
 use Prim.Native.Nat.{ℕ}
 use lib.Ieee.{Float, binary64, ofBits, lt, mul}
 use Rattle.cost_rows.specs.Table.{Row}

@@ -9,7 +9,6 @@ use borrow.Author.Tests.{eq-eqb, ne-eqb}
 use lib.Dec.{eqb}
 use lib.ListN.{length, getD, drop}
 use Rattle.trimming.specs.Trim.{trimmed}
-use Rattle.day_shapes.specs.declared.Judged.{Judged}
 use Rattle.day_shapes.specs.declared.Judged.the-variants.{Right, Wrong}
 use Rattle.day_shapes.specs.Shapes.{fieldWrong, stepOf, endJudged, orWrong, shapeJudged}
 

@@ -1,7 +1,7 @@
 -- Laws of the decimal in the first field of a line: where its digits end, and what the field up to the comma says. Assumes nothing.
 use mathlib.Core.Path.{_≡_, refl, sym, ap, _∙_, subst}
 use mathlib.Core.Bool.{Bool, true, false, not, cond}
-use mathlib.Core.List.{List, [], _∷_, _++_}
+use mathlib.Core.List.{List, [], _∷_}
 use Prim.Native.Nat.{ℕ, zero, suc, _+_, _-_, _^_, _≤_, _<_, min}
 use native.Mathlib.Nat.{zero-add, suc-add, le-refl, le-suc, le-of-suc-le-suc}
 use native.Mathlib.Numerals.{add-one}

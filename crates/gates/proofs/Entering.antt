@@ -21,9 +21,8 @@ use Rattle.goodput_judges.specs.Refusals.{sizesRefusal}
 use Rattle.chains.specs.Expected.{areChains, expectedOver}
 use Rattle.depths.specs.Goodput.{isBest, firstBest, bestOf}
 use Rattle.depths.specs.Pricing.{costsFrom}
-use Rattle.goodput.specs.Depth.{bestPriced, depthUnless, depthNumber, depthValue, aggregateAnswer}
+use Rattle.goodput.specs.Depth.{depthUnless, depthNumber, depthValue, aggregateAnswer}
 use Rattle.goodput_judges.specs.Refusals.{isPricedBatch, aggregateRefusal}
-use Rattle.goodput.specs.declared.depth.Depth.{Depth}
 use Rattle.goodput.specs.declared.depth.Depth.the-variants.{Best as Found, Refused as Unfound}
 use Rattle.chains.proofs.Fill.{length-scan}
 use Rattle.goodput_judges.proofs.Judges.{first-given, first-none, drafter-first, too-deep, too-many, sizes-none, sizes-passed, inputs-passed}
@@ -35,7 +34,7 @@ use Rattle.block.specs.Block.{blockGate}
 use Rattle.trim.specs.Ragged.{raggedGate}
 use Rattle.verdict.specs.Price.{verifyCost}
 use Rattle.gates.specs.declared.Gated.the-variants.{Weighed, Refused}
-use Rattle.gates.specs.Entry.{Left, roomRefusal, leftUnless, prices, depthOf, gateRefusal, raggedChosen, blockChosen, raggedAnswer, blockAnswer}
+use Rattle.gates.specs.Entry.{Left, roomRefusal, leftUnless, depthOf, gateRefusal, raggedChosen, blockChosen, raggedAnswer, blockAnswer}
 
 -- ---- the room
 module _ (kind : DrafterCost) (gamma n room r : ℕ) (e : r ≡ drafterRefusal kind) where

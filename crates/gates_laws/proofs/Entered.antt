@@ -1,7 +1,7 @@
 -- What holds of an entry point's answer: a refusal writes nothing, and the slots weighed are at most those that the chains have up to the batch's best
 -- depth. Assumes nothing.
 use Prim.Native.Nat.{ℕ, zero, suc, _≤_}
-use mathlib.Core.Path.{_≡_, refl, ap, _∙_}
+use mathlib.Core.Path.{_≡_, refl}
 use mathlib.Core.List.{List}
 use native.Mathlib.Omega.{arith}
 use lib.ListN.{length}
@@ -11,7 +11,7 @@ use Rattle.speculative.specs.declared.drafter.DrafterCost.{DrafterCost}
 use Rattle.verdict.specs.Price.{verifyCost}
 use Rattle.slots.specs.Slots.{starts, sum}
 use Rattle.slots.specs.Gate.{Chosen}
-use Rattle.gates.specs.Entry.{Left, leftUnless, prices, depthOf, gateRefusal, raggedChosen, blockChosen, raggedAnswer, blockAnswer, gatedNumber, weighedBy}
+use Rattle.gates.specs.Entry.{leftUnless, prices, depthOf, gateRefusal, raggedChosen, blockChosen, raggedAnswer, blockAnswer, gatedNumber, weighedBy}
 use Rattle.gates_laws.proofs.Widths.{ragged-weighed, block-weighed}
 
 -- what is left by a refusal, and by a gate that weighed no more than b

@@ -4,16 +4,16 @@ use mathlib.Core.Path.{_≡_, refl, sym, ap, _∙_}
 use mathlib.Core.Logic.{_⊎_, inl, inr, ⊎-elim}
 use mathlib.Core.Bool.{Bool, true, false, not, cond}
 use mathlib.Core.List.{List}
-use Prim.Native.Nat.{ℕ, zero, suc, _+_, _-_, _*_, _^_, _≤_, _<_, min}
+use Prim.Native.Nat.{ℕ, zero, suc, _+_, _-_, _*_, _^_, _≤_, _<_}
 use native.Mathlib.Nat.{mul-one, mul-pos, mul-right-comm, le-of-mul-le-mul-right, le-trans, le-of-eq, zero-lt-suc}
 use native.Mathlib.Omega.{arith}
 use borrow.Author.Tests.{ltb-false, ltb-true, le-ltb, ne-eqb}
-use lib.Dec.{ltb, eqb}
+use lib.Dec.{ltb}
 use lib.ListN.{length, getD}
-use lib.Ieee.{Float, nan, inf, fin, binary64, up, down, ofBits, ofInt, neg, add, sub, mul, lt, isNan, toUnsigned}
+use lib.Ieee.{Float, nan, inf, fin, binary64, up, down, ofBits, ofInt, neg, add, sub, mul, lt, isNan}
 use lib.Ieee.Fits.{down-pos}
 use lib.Ieee.Exact.{HasValue}
-use Rattle.float.specs.Floats.{plus, less, times, over, whole, f0, f1, infinity, maxOf, clampTo, isFinite}
+use Rattle.float.specs.Floats.{plus, less, times, over, whole, f0, f1, infinity, maxOf, isFinite}
 use Rattle.float.specs.Range.{inRange}
 use Rattle.float.proofs.Classes.{clash, is-nan}
 use Rattle.float.proofs.Order.{nan-not-above}
@@ -22,9 +22,9 @@ use Rattle.float.proofs.Clamped.{clamp-low, clamp-high}
 use Rattle.numeral.proofs.Rounding.{whole-held}
 use Rattle.speculative.specs.Drafter.{billion}
 use Rattle.chains.specs.Tests.{isPrice}
-use Rattle.verdict.specs.Price.{meanWidth, segment, between, verifyCost}
+use Rattle.verdict.specs.Price.{meanWidth, verifyCost}
 use Rattle.verdict.specs.Decision.{tiny, rateOf, Sums, passed, nextSeconds, slotAt}
-use Rattle.gates_laws.specs.Holes.{Class, finite, infinite, noNumber, classOf, isHole, depthBelow, isBehind, entryBelow, entryAbove, classAt}
+use Rattle.gates_laws.specs.Holes.{finite, classOf, isHole, depthBelow, isBehind, entryBelow, entryAbove, classAt}
 use Rattle.gates_laws.proofs.Sizes.{Sized, sized-finite, sized-more, whole-sized, sized-plus, sized-less, sized-times}
 
 -- ---- what lies from 0 to a whole number is no larger

@@ -10,7 +10,7 @@ use lib.Dec.{leb, eqb}
 use lib.ListN.{length, take, drop, replicate}
 use lib.Ieee.{Float, binary64, ofBits}
 use Rattle.laws.proofs.Both.{both}
-use Rattle.float.specs.Floats.{plus, times, over, f0, f1, f2, whole, maxOf, isClear}
+use Rattle.float.specs.Floats.{plus, times, over, f0, f1, f2, whole, isClear}
 use Rattle.float.specs.Range.{inRange}
 use Rattle.float.proofs.Ranges.{range-clear}
 use Rattle.speculative.specs.Drafter.{stillDrafting, withExperts, headPass, passSeconds, loadedAt, isCount, isParams, isDrafter, isStreamed, quintillion}

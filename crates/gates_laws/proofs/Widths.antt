@@ -9,8 +9,9 @@ use native.Mathlib.Omega.{arith}
 use lib.Dec.{eqb}
 use lib.ListN.{getD, set, length, drop, length-set, replicate, length-replicate, getD-replicate, List·getD-map}
 use lib.Seq.{getD-set-same, getD-set-other}
-use lib.Ieee.{Float, nan}
-use Rattle.speculative.specs.Drafter.{stillDrafting, drafterSeconds, loadedAt}
+use lib.Ieee.{Float}
+use Rattle.laws.proofs.Choices.{either}
+use Rattle.speculative.specs.Drafter.{stillDrafting}
 use Rattle.speculative.specs.declared.drafter.Rates.{Rates}
 use Rattle.speculative.specs.declared.drafter.DrafterCost.{DrafterCost}
 use Rattle.heap.specs.Frontier.{Choice, nobody, chosen, next}

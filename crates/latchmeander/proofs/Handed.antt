@@ -18,7 +18,6 @@ use Rattle.bank_judge.specs.declared.Answer.{Answer as BankAnswer}
 use Rattle.bank.specs.Read.{Outcome as Bank}
 use Rattle.measured.specs.declared.Answer.{Answer as TableAnswer}
 use Rattle.measured.specs.Fill.{Outcome as Table}
-use Rattle.judged_plans.specs.declared.Planned.{Planned}
 use Rattle.judged_plans.specs.declared.Planned.the-variants.{Refused}
 use Rattle.judged_plans.specs.Plan.{Left, planned}
 use Rattle.host.specs.declared.answers.HostPlan.{HostPlan}

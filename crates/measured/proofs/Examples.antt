@@ -1,10 +1,8 @@
 -- Worked examples of the definition of reading a cost table, by computation. Each lends room for three rows. Assumes nothing.
 use mathlib.Core.Path.{_≡_, refl}
-use mathlib.Core.Bool.{false}
 use mathlib.Core.List.{List, [], _∷_, _++_}
 use Prim.Native.Nat.{ℕ}
-use lib.IntN.{pos}
-use lib.Ieee.{Float, fin, nan, round, lt, mul, ofBits, binary64}
+use lib.Ieee.{Float, nan, round, lt, mul, ofBits, binary64}
 use Rattle.numeral.specs.Spelling.{wholeOf}
 use Rattle.decimals.specs.Decimals.{decimalOf}
 use Rattle.cost_rows.specs.Table.{over}

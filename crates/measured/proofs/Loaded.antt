@@ -1,6 +1,6 @@
 -- What reading a cost table leaves: 1 to 4,096 rows, in order and in range, or one of the refusals 1 to 11 and 16; never 20. Assumes nothing.
 use mathlib.Core.Path.{_≡_, refl, sym, ap, _∙_, subst}
-use mathlib.Core.Bool.{Bool, true, false, cond, _&&_}
+use mathlib.Core.Bool.{Bool, true, false, cond}
 use mathlib.Core.List.{List, [], _∷_}
 use Prim.Native.Nat.{ℕ, suc, _+_, _≤_, _<_, min, zero-le}
 use native.Mathlib.Nat.{le-trans, le-of-eq}
@@ -30,8 +30,8 @@ use Rattle.measured.specs.declared.Answer.{Answer}
 use Rattle.measured.specs.declared.Answer.the-variants.{Table, Refused}
 use Rattle.table_line.specs.Line.{wholeAt, decimalAt, valuesRead, numbersRead, rowRead, lineRead}
 use Rattle.measured.specs.Judge.{headerRight, rowsIn, unlessRefused, judgeRows, judgeLines, judged, answerRefusal}
-use Rattle.measured.specs.Fill.{rowsOf, keptOver, cleanedTo, Outcome, leaves, answered, tableRead}
-use Rattle.cost_rows.specs.Lawful.{allInRange, lawful}
+use Rattle.measured.specs.Fill.{rowsOf, keptOver, Outcome, leaves, answered, tableRead}
+use Rattle.cost_rows.specs.Lawful.{lawful}
 use Rattle.measured.proofs.Laws.{some-left}
 use Rattle.measured.proofs.Accepted.{accepted, refused-no}
 use Rattle.measured.proofs.Ranges.{loaded-range}

@@ -1,6 +1,6 @@
 -- The seconds of every row that a line says are in range: above 0, and at most 10 ^ 15, which is at most 10 ^ 17. Assumes nothing.
 use mathlib.Core.Path.{_≡_, refl, sym, _∙_, subst, ap}
-use mathlib.Core.Bool.{Bool, true, false, cond, _&&_}
+use mathlib.Core.Bool.{Bool, true, false}
 use mathlib.Core.List.{List, [], _∷_, _++_}
 use Prim.Native.Nat.{ℕ, _*_, _^_, _≤_, _<_}
 use native.Mathlib.Nat.{le-of-lt, zero-lt-suc, one-le-pow}
@@ -22,7 +22,7 @@ use Rattle.decimals.specs.declared.Decimal.{Decimal}
 use Rattle.decimals.specs.declared.Decimal.the-variants.{Value, Malformed, TooLong}
 use Rattle.decimals.specs.Decimals.{decimalOf}
 use Rattle.decimals.proofs.Rounding.{round-neg, quotient-finite}
-use Rattle.decimals.proofs.Decimals.{Read, decimal-read}
+use Rattle.decimals.proofs.Decimals.{decimal-read}
 use Rattle.cost_rows.specs.Table.{Row}
 use Rattle.cost_rows.specs.Order.{earlier, insert, sorted}
 use Rattle.cost_rows.specs.Prune.{dropped, kept}

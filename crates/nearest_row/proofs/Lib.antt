@@ -1,4 +1,3 @@
-pub mod Rows
 pub mod Near
 pub mod Ascending
 pub mod Placed

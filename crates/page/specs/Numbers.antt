@@ -1,7 +1,7 @@
 -- How a number is written on a page.
-use Prim.Native.Nat.{ℕ, zero, suc, _+_, _*_, _/_, _^_, max, min}
+use Prim.Native.Nat.{ℕ, zero, suc, _+_, _/_, _^_, min}
 use mathlib.Core.Bool.{cond}
-use mathlib.Core.List.{List, [], _∷_, _++_}
+use mathlib.Core.List.{List, _∷_, _++_}
 use lib.Dec.{ltb}
 use lib.ListN.{take, replicate}
 use Rattle.io.specs.Digits.{digits}

@@ -1,12 +1,12 @@
 -- Passes that stand in a list make the same gate as the passes themselves: none is over more sequences than there are. Assumes nothing.
 use Prim.Native.Nat.{ℕ, _-_, _≤_}
-use mathlib.Core.Path.{_≡_, refl, ap, _∙_}
+use mathlib.Core.Path.{_≡_, ap, _∙_}
 use mathlib.Core.List.{List}
 use native.Mathlib.Omega.{arith}
 use lib.ListN.{length, getD, length-set}
 use lib.Ieee.{Float}
 use Rattle.speculative.specs.Drafter.{stillDrafting}
-use Rattle.heap.specs.Greedy.{Outcome, greedy}
+use Rattle.heap.specs.Greedy.{greedy}
 use Rattle.heap.proofs.Steps.{Kept, greedy-same}
 use Rattle.verdict.specs.Decision.{Decision, passed, stopped, taken, removalAt}
 use Rattle.slots.specs.Slots.{downFrom, stacks, survival}

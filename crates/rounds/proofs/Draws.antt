@@ -1,8 +1,8 @@
 -- Laws of a batch that is drawn sequence by sequence: each way through the loops. Assumes nothing.
 use mathlib.Core.Path.{_≡_, refl, sym, ap, _∙_, subst}
 use mathlib.Core.Bool.{Bool, true, false, cond}
-use mathlib.Core.List.{List, [], _∷_}
-use Prim.Native.Nat.{ℕ, zero, suc, _+_, _-_, _≤_, _<_}
+use mathlib.Core.List.{List, _∷_}
+use Prim.Native.Nat.{ℕ, suc, _+_, _-_, _≤_, _<_}
 use native.Mathlib.Omega.{arith}
 use lib.Dec.{ltb}
 use lib.ListN.{length, getD, drop, set, drop-of-length-le}
@@ -10,7 +10,7 @@ use lib.Seq.{sets, drop-drop}
 use lib.Ieee.{Float}
 use borrow.Author.Tests.{le-ltb, lt-ltb}
 use Rattle.laws.proofs.Lists.{next}
-use Rattle.acceptance.specs.Acceptance.{sampled, sampleFrom, usedOf}
+use Rattle.acceptance.specs.Acceptance.{sampleFrom, usedOf}
 use Rattle.acceptance.proofs.Draws.{sample-bounded}
 use Rattle.acceptance.specs.declared.AcceptanceModel.{AcceptanceModel}
 use Rattle.acceptance.specs.declared.Sample.{Sample}

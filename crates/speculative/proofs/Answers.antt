@@ -1,6 +1,6 @@
 -- The drafter's answers: refused, or the seconds. Assumes nothing.
 use mathlib.Core.Path.{_≡_, refl, sym, ap, _∙_}
-use mathlib.Core.Bool.{Bool, true, false, _&&_}
+use mathlib.Core.Bool.{Bool, true, _&&_}
 use mathlib.Core.List.{List}
 use Prim.Native.Nat.{ℕ, zero, suc, _≤_, _<_}
 use native.Mathlib.Nat.{not-suc-le-zero}
@@ -10,7 +10,6 @@ use lib.ListN.{length}
 use lib.Ieee.{Float}
 use Rattle.speculative.specs.declared.drafter.Rates.{Rates}
 use Rattle.speculative.specs.declared.drafter.DrafterCost.{DrafterCost}
-use Rattle.speculative.specs.declared.drafter.DraftTime.{DraftTime}
 use Rattle.speculative.specs.declared.drafter.DraftTime.the-variants.{Seconds, Refused}
 use Rattle.acceptance.specs.Acceptance.{mostGamma}
 use Rattle.speculative.specs.Drafter.{mostBatch, drafterSeconds, loadedAt, passSeconds, raggedSeconds, costRefusal, timeUnless, timeRefusal, draftSeconds, draftPass, draftRagged}

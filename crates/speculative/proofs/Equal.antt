@@ -1,19 +1,18 @@
 -- Widths that are all equal: a fraction and a block cost what one draft of that depth costs; an autoregressive head costs that many passes added up, which may differ in the last bit from the product. Assumes nothing.
-use mathlib.Core.Path.{_≡_, refl, sym, ap, _∙_}
+use mathlib.Core.Path.{_≡_, refl, ap, _∙_}
 use mathlib.Core.Bool.{cond}
 use mathlib.Core.List.{List, [], _∷_}
-use Prim.Native.Nat.{ℕ, zero, suc, _+_, _≤_, max}
+use Prim.Native.Nat.{ℕ, zero, suc, _≤_}
 use native.Mathlib.Omega.{arith}
 use borrow.Author.Tests.{le-leb}
 use lib.Dec.{eqb}
 use lib.ListN.{length, replicate, length-replicate}
-use lib.IntN.{pos}
 use lib.Ieee.{Float, binary64, lt, isNan, ofBits, ofInt, add, mul, div, round}
 use Rattle.float.specs.Floats.{plus, times, f0, f1, whole, maxOf}
 use Rattle.speculative.specs.declared.drafter.Rates.{Rates}
 use Rattle.speculative.specs.declared.drafter.DrafterCost.{DrafterCost}
 use Rattle.speculative.specs.declared.drafter.DrafterCost.the-variants.{Fraction, Autoregressive, BlockParallel}
-use Rattle.speculative.specs.Drafter.{headPass, blockSeconds, kindSeconds, drafterSeconds, loadedAt, passSeconds, passesFrom, kindRagged, raggedSeconds}
+use Rattle.speculative.specs.Drafter.{headPass, blockSeconds, drafterSeconds, loadedAt, passSeconds, passesFrom, raggedSeconds}
 use Rattle.draft_inputs.specs.Inputs.{largest, stillDrafting}
 
 largest-equal : (m g : ℕ) → largest (replicate (suc m) g) ≡ g

@@ -10,7 +10,7 @@ use Rattle.speculative.specs.declared.drafter.DrafterCost.{DrafterCost}
 use Rattle.speculative.specs.declared.drafter.DrafterCost.the-variants.{Fraction, Autoregressive, BlockParallel}
 use Rattle.speculative.specs.declared.drafter.DraftTime.the-variants.{Seconds, Refused as NoTime}
 use Rattle.draft_inputs.specs.Inputs.{million, billion, quintillion, largest, stillDrafting}
-use Rattle.speculative.specs.Drafter.{headPass, blockSeconds, drafterSeconds, passesFrom, raggedSeconds, drafterRefusal, ratesRefusal, loadedRefusal, inputsRefusal, costRefusal, draftSeconds, draftPass, draftRagged}
+use Rattle.speculative.specs.Drafter.{headPass, blockSeconds, passesFrom, drafterRefusal, ratesRefusal, loadedRefusal, inputsRefusal, costRefusal, draftSeconds, draftPass, draftRagged}
 
 abbrev half : Float
 half = ofBits binary64 0x3fe0_0000_0000_0000

@@ -1,6 +1,6 @@
 -- The seconds at a depth between the measured ones: straight between the nearest of them, with the Rust's order of operations. Assumes nothing.
 use Prim.Native.Nat.{ℕ, _-_, min, max}
-use mathlib.Core.Bool.{Bool, false, not, _&&_, cond}
+use mathlib.Core.Bool.{Bool, not, _&&_, cond}
 use mathlib.Core.List.{List, [], _∷_, map}
 use lib.Dec.{eqb}
 use lib.Ieee.{Float, lt, le}

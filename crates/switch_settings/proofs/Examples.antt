@@ -5,7 +5,6 @@ use lib.Ieee.{neg, lt, eq, ofBits, ofInt, round}
 use Rattle.float.specs.Floats.{f0, whole, isClear}
 use Rattle.float.specs.Range.{inRange}
 use Rattle.switch_settings.specs.declared.MaxStep.the-variants.{Unlimited, AtMost}
-use Rattle.switch_settings.specs.declared.SwitchConstraints.{SwitchConstraints}
 use Rattle.switch_settings.specs.Switch.{mostCost, isUnconstrained, switchRefusal}
 
 -- an hour in milliseconds

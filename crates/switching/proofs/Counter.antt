@@ -1,11 +1,10 @@
 -- After any decision the counter is below the cooldown, and so the record's counter stays in range; a record that passes the judge has a width in range after a decision too. Assumes nothing.
-use mathlib.Core.Path.{_≡_, refl, sym, ap, _∙_}
+use mathlib.Core.Path.{_≡_, refl}
 use mathlib.Core.Bool.{Bool, true, false, cond}
 use mathlib.Core.List.{List, [], _∷_}
-use Prim.Native.Nat.{ℕ, zero, suc, _+_, _-_, _≤_, _<_, max}
+use Prim.Native.Nat.{ℕ, _+_, _-_, _≤_, _<_, max}
 use native.Mathlib.Omega.{arith}
 use borrow.Author.Tests.{leb-false}
-use lib.Dec.{leb}
 use lib.ListN.{length, getD}
 use lib.Ieee.{Float}
 use Rattle.switch_settings.specs.declared.SwitchConstraints.{SwitchConstraints}

@@ -10,11 +10,8 @@ use Rattle.switch_settings.specs.declared.MaxStep.the-variants.{Unlimited, AtMo
 use Rattle.switch_settings.specs.declared.SwitchConstraints.{SwitchConstraints}
 use Rattle.width_walk.specs.Walk.{firstAtLeast, walkCandidates}
 use Rattle.switching.specs.Deciding.{finiteFrom, candidatesOf, recordRefusal, decideRefusal, decided, atFirst, firstDecision, decision, collection}
-use Rattle.switching.specs.declared.Switching.{Switching}
 use Rattle.switching.specs.declared.Answer.the-variants.{Width, Refused}
-use Rattle.switching.specs.declared.Decided.{Decided}
-use Rattle.switching.specs.declared.Stall.the-variants.{Seconds, Refused as NotCollected}
-use Rattle.switching.specs.declared.Collected.{Collected}
+use Rattle.switching.specs.declared.Stall.the-variants.{Seconds}
 
 abbrev evens : List ℕ
 evens = 0 ∷ 2 ∷ 4 ∷ 6 ∷ []

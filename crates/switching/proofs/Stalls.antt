@@ -7,8 +7,8 @@ use Prim.Native.Nat.{ℕ, zero, suc, _+_, _-_, _*_, _/_, _^_, _≤_, _<_}
 use native.Mathlib.Nat.{le-trans, le-of-eq, le-of-lt, zero-add, zero-lt-suc, mul-one, mul-comm, mul-assoc, mul-left-comm, mul-right-comm, add-mul, mul-le-mul-right, mul-pos, le-of-mul-le-mul-right}
 use native.Mathlib.Omega.{arith}
 use borrow.Author.Tests.{eq-eqb, ltb-false}
-use lib.Dec.{T, eqb, ltb, ltb→lt, eqb→eq, leb}
-use lib.IntN.{ℤ, pos, negsuc}
+use lib.Dec.{T, eqb, ltb, ltb→lt, eqb→eq}
+use lib.IntN.{pos, negsuc}
 use lib.Ieee.{Float, nan, inf, fin, Format, prec, emax, low, up, down, size, odd, units, round, sum, add, mul, lt, eq, le, binary64, ofBits}
 use lib.Ieee.Fits.{down-pos, round-is}
 use lib.Ieee.Nearest.{closest}
@@ -18,11 +18,10 @@ use Rattle.decimals.proofs.Rounding.{whole-held}
 use Rattle.float.specs.Floats.{plus, times, f0, isFinite, isClear}
 use Rattle.float.specs.Range.{inRange}
 use Rattle.float.proofs.Classes.{clash}
-use Rattle.float.proofs.Ranges.{range-high}
 use Rattle.switch_settings.specs.Switch.{mostCost, switchRefusal}
 use Rattle.switch_settings.specs.declared.SwitchConstraints.{SwitchConstraints}
 use Rattle.width_walk.specs.Walk.{walkCandidates}
-use Rattle.switching.specs.Deciding.{milli, isDue, counted, atWidth, walked, collected, candidatesOf, decided}
+use Rattle.switching.specs.Deciding.{milli, isDue, counted, walked, candidatesOf, decided}
 use Rattle.switching.specs.declared.Switching.{Switching}
 
 -- finite, with a clear sign bit, and at most the whole number n

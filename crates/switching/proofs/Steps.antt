@@ -1,7 +1,7 @@
 -- The record's steps and what is refused: each way through the code. Assumes nothing.
 use mathlib.Core.Path.{_≡_, refl, sym, ap, _∙_}
 use mathlib.Core.Bool.{Bool, true, false, _&&_, cond}
-use mathlib.Core.List.{List, []}
+use mathlib.Core.List.{List}
 use Prim.Native.Nat.{ℕ, zero, suc, _+_, _-_, _≤_, _<_, max}
 use native.Mathlib.Nat.{not-suc-le-zero}
 use native.Mathlib.Omega.{arith}
@@ -17,7 +17,7 @@ use Rattle.draft_inputs.specs.Inputs.{billion}
 use Rattle.switch_settings.specs.Switch.{switchRefusal}
 use Rattle.switch_settings.specs.declared.SwitchConstraints.{SwitchConstraints}
 use Rattle.refusals.proofs.First.{goes-first, goes-next}
-use Rattle.switching.specs.Deciding.{milli, isDue, counted, atWidth, walked, collected, candidatesOf, next, decided, mostWidth, mostRounds, mostDepths, isRecord, recordRefusal, allPrices, decideRefusal, atFirst, firstDecision, decidedUnless, decision, collectedUnless, collection}
+use Rattle.switching.specs.Deciding.{milli, isDue, counted, atWidth, walked, collected, candidatesOf, next, decided, mostWidth, mostRounds, mostDepths, recordRefusal, allPrices, decideRefusal, atFirst, firstDecision, decidedUnless, decision, collectedUnless, collection}
 use Rattle.switching.specs.declared.Switching.{Switching}
 use Rattle.switching.specs.declared.Answer.the-variants.{Width, Refused}
 use Rattle.switching.specs.declared.Decided.{Decided}

@@ -11,7 +11,7 @@ use Rattle.speculative.specs.Drafter.{stillDrafting, passSeconds, loadedAt}
 use Rattle.speculative.specs.declared.drafter.Rates.{Rates}
 use Rattle.speculative.specs.declared.drafter.DrafterCost.{DrafterCost}
 use Rattle.heap.specs.Greedy.{Verdict, greedy}
-use Rattle.verdict.specs.Decision.{Sums, removalAt}
+use Rattle.verdict.specs.Decision.{removalAt}
 use Rattle.slots.specs.Slots.{starts, downFrom, stacks, survival}
 use Rattle.slots.specs.Gate.{State, judged, Chosen, chosenBy}
 

@@ -4,7 +4,6 @@ use mathlib.Core.List.{List}
 use mathlib.Core.Path.{_≡_}
 use Prim.Native.Nat.{ℕ}
 use lib.Ieee.{Float}
-use Rattle.asking.specs.Asked.{Lent}
 use Rattle.bank.specs.Read.{bankRead}
 use Rattle.host.specs.Answers.{answerOf, countOf, foundOf, meanOf, stallOf}
 use Rattle.host.specs.declared.answers.HostCount.{HostCount}

@@ -1,9 +1,9 @@
 -- The ways out of the functions that weigh a slot, and that a tally whose rate is that of its sums decides as the definition does. Assumes nothing.
-use mathlib.Core.Path.{_≡_, refl, sym, ap, _∙_}
+use mathlib.Core.Path.{_≡_, refl, ap}
 use mathlib.Core.Bool.{Bool, true, false, cond}
 use lib.Ieee.{Float, lt}
 use Rattle.float.specs.Floats.{plus, less, f1, isFinite}
-use Rattle.verdict.specs.Decision.{Sums, Decision, passed, stopped, taken, takenIf, rateOf, rateNow, removalAt, slotAt}
+use Rattle.verdict.specs.Decision.{Decision, passed, stopped, takenIf, rateOf, removalAt, slotAt}
 use Rattle.verdict.specs.Tallies.{sumsOf, decisionOf, Rated, StillRated, tallied, removedAt, addedAt}
 use Rattle.verdict.specs.declared.inner.Tally.{Tally}
 use Rattle.verdict.specs.declared.inner.Verdict.{Verdict}

@@ -1,5 +1,4 @@
 -- `bench_price` meets its contract: the lookup's own curve, and a depth of it. Assumes nothing.
-use mathlib.Core.Path.{refl}
 use Rattle.cost_lookup.specs.Entry.{priceCurveAt}
 use Rattle.bench_exports.proofs.Prices.{price-there, price-nowhere}
 use borrow.Author.Needs.{needs}

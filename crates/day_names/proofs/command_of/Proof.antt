@@ -1,8 +1,6 @@
 -- `day_names::command_of` meets its contract: an empty line, the series in bits, or the first field's name. Assumes nothing.
 use mathlib.Core.Path.{refl, sym, ap, _∙_}
-use Prim.Native.Nat.{ℕ}
 use borrow.Author.Tests.{eq-eqb, ne-eqb}
-use mathlib.Core.List.{List}
 use lib.ListN.{length}
 use Rattle.day_line.specs.DayLine.{uncommented}
 use Rattle.day_names.specs.Names.{commandOf, settingNamed}

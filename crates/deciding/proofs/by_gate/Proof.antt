@@ -1,5 +1,4 @@
 -- `by_gate` meets its contract. Assumes nothing.
-use mathlib.Core.Path.{_≡_}
 use mathlib.Core.List.{[]}
 use denote.Ref.{now}
 use Rattle.deciding.specs.Ready.{lentOf}

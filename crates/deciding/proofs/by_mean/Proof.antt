@@ -1,5 +1,4 @@
 -- `by_mean` meets its contract. Assumes nothing.
-use mathlib.Core.Path.{_≡_}
 use mathlib.Core.List.{[]}
 use native.Mathlib.Omega.{arith}
 use denote.Ref.{now}

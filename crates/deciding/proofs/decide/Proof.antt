@@ -1,5 +1,5 @@
 -- `decide` meets its contract, policy by policy. Assumes nothing.
-use mathlib.Core.Path.{_≡_, ap}
+use mathlib.Core.Path.{ap}
 use denote.Ref.{now}
 use Rattle.settings.specs.Settings.{usesCosts, usesSignals}
 use Rattle.deciding.specs.Ready.{looped, lentOf}

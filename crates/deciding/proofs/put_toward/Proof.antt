@@ -1,5 +1,4 @@
 -- `put_toward` meets its contract. Assumes nothing.
-use mathlib.Core.Path.{_≡_}
 use Rattle.deciding.proofs.Decisions.{put-decides}
 use borrow.Author.Needs.{needs}
 use Rattle.deciding.proofs.put_toward.Statement.{statement}

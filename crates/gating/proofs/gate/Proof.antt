@@ -1,5 +1,5 @@
 -- `gate` meets its contract. Assumes nothing.
-use mathlib.Core.Path.{_≡_, sym, _∙_}
+use mathlib.Core.Path.{sym, _∙_}
 use Rattle.laws.proofs.Choices.{first, second}
 use borrow.Author.Needs.{needs}
 use Rattle.gating.proofs.gate.Statement.{statement}

@@ -1,5 +1,4 @@
 -- `gate_laid` meets its contract, by those of the functions that it calls. Assumes nothing.
-use mathlib.Core.Path.{_≡_}
 use native.Mathlib.Omega.{arith}
 use denote.Ref.{now}
 use Rattle.gating.proofs.Batches.{many, chained, fitting, own-drafts, no-drafts}

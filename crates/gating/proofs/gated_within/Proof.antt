@@ -1,5 +1,5 @@
 -- `gated_within` meets its contract: what is laid at the front is the chains, and they are all that the gate is lent. Assumes nothing.
-use mathlib.Core.Path.{_≡_, sym, ap, _∙_}
+use mathlib.Core.Path.{sym, ap, _∙_}
 use mathlib.Core.List.{List}
 use Prim.Native.Nat.{_*_}
 use native.Mathlib.Omega.{arith}

@@ -1,5 +1,5 @@
 -- `gamma_in` meets its contract, policy by policy. Assumes nothing.
-use mathlib.Core.Path.{_≡_, sym, ap, _∙_}
+use mathlib.Core.Path.{sym, ap, _∙_}
 use Rattle.settings.specs.declared.Policy.{Policy}
 use Rattle.settings.specs.Settings.{gammaUnder}
 use borrow.Author.Needs.{needs}

@@ -1,11 +1,6 @@
 -- `settings_refusal` meets its contract: the first refusal of the model, the drafter and the switch settings. Assumes nothing.
-use mathlib.Core.Path.{_≡_, sym, ap, _∙_}
-use denote.Ref.{now}
-use Rattle.refusals.specs.Refusals.{firstOf}
+use mathlib.Core.Path.{_∙_}
 use Rattle.refusals.proofs.First.{goes-first, goes-next}
-use Rattle.acceptance.specs.Acceptance.{modelRefusal}
-use Rattle.speculative.specs.Drafter.{drafterRefusal}
-use Rattle.switch_settings.specs.Switch.{switchRefusal}
 use Rattle.settings.specs.Settings.{settingsRefusal}
 use borrow.Author.Needs.{needs}
 use Rattle.settings.proofs.settings_refusal.Statement.{statement}

@@ -1,9 +1,8 @@
 -- `switching_lent::decide_lent` meets its contract: a walk of its MIR, by hand, written by tools/mk_lent. The borrow is opened, the record is copied out whole, `decide` is called on the copy and what else is passed, the record in its result is stored where the old one stood, and the borrow is closed at it.
 -- All that the proof knows of `decide` is that it meets its contract. A slice is Copy: what it owns is had twice, once for the callee and once for the exit; the token of its lifetime goes to the callee and comes back.
 -- Assumes nothing.
-use denote.Floats.{float-vals, float-tells, float-makes, float-lawful}
 use denote.Builtin.{f64, u32}
-use lib.Ieee.{Float, binary64}
+use lib.Ieee.{Float}
 use denote.Slice.{ShrSlice, slice-vals, shr-slice-tells, shr-slice-lawful, shr-slice-copy}
 use denote.Plain.{uint-vals, uint-tells, uint-makes, uint-lawful}
 use mir.Syntax.{w32, named}

@@ -10,12 +10,12 @@ use lib.Dec.{T as Holds}
 use lib.Ieee.{Float}
 use mir.Syntax.{named, w32}
 use mir.Val.{Val, WT, hasTy, vptr}
-use base.Logic.{SProp, ent, sep, emp, via, fst∗, id⊢}
+use base.Logic.{SProp, ent, emp, via, fst∗, id⊢}
 use base.Fml.{GName, Lft, Share, Fml, ftrue, fsep, fat, flft, flent}
 use prog.Memory.{Memory}
 use prog.Routine.{Routine}
 use prog.Wp.{Heap, Calls, Loops, WpFn, Tables}
-use ghost.Atoms.{Atoms, sem}
+use ghost.Atoms.{Atoms}
 use contract.Monad.{Fun, fact}
 use contract.Running.{givenOf, tables, tablesOf}
 use types.Kit.{Given, ‵, raw, some, later, _⊛_, ⋆, _$_, _∵_, !, qed, by, move, keep, drop, use1, use2, use3, split, join, pick, rewrite, fsplit, fjoin, suffices, frame, await, done}

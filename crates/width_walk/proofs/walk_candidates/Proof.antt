@@ -1,5 +1,4 @@
 -- `walk::walk_candidates` meets its contract: the index that the walk gives lies within the list. Assumes nothing.
-use mathlib.Core.Path.{ap, sym}
 use Prim.Native.Nat.{_<_}
 use native.Mathlib.Omega.{arith}
 use lib.ListN.{length}

@@ -6,7 +6,7 @@ use Rattle.asked_rooms.specs.declared.Ask.{Ask}
 use Rattle.asking.specs.Asked.{Lent}
 use Rattle.judged_plans.specs.Plan.{Left, planned}
 use Rattle.bench_plans.specs.Figures.{drafterOf}
-use Rattle.bench_plans.specs.Whole.{settingsOf, askOf, usedOf}
+use Rattle.bench_plans.specs.Whole.{settingsOf, usedOf}
 use borrow.Author.Needs.{needs}
 use Rattle.bench_plans.proofs.whole.bench_plan.Statement.{statement}
 use Rattle.bench_plans.proofs.whole.bench_plan.Tie as tie

@@ -1,5 +1,4 @@
 -- `weighing::verify_block` meets its contract. Assumes nothing.
-use mathlib.Core.Path.{_≡_}
 use borrow.Author.Needs.{needs}
 use Rattle.block.proofs.weighing.verify_block.Statement.{statement}
 use Rattle.block.proofs.weighing.verify_block.Tie as tie

@@ -1,5 +1,4 @@
 -- `weighing::verify_within` meets its contract, by those of the functions that it calls. Assumes nothing.
-use mathlib.Core.Path.{_≡_, _∙_}
 use native.Mathlib.Omega.{arith}
 use lib.ListN.{length}
 use denote.Ref.{now}

@@ -1,5 +1,5 @@
 -- `weighing::weigh` meets its contract. Assumes nothing.
-use mathlib.Core.Path.{_≡_, ap, _∙_}
+use mathlib.Core.Path.{ap, _∙_}
 use lib.Ieee.{Float}
 use denote.Ref.{now}
 use Rattle.verdict.specs.Price.{verifyCost}

@@ -1,11 +1,11 @@
 -- `weighing::weigh_all` meets its contract. The loop's invariant is `Growing`: the code is in step with the definition; and the tally's rate is that of
 -- its sums. The measure is the number of slots that are not weighed yet, at most. Assumes nothing.
-use Prim.Native.Nat.{ℕ, _+_, _*_, _-_, _≤_, _<_, min}
+use Prim.Native.Nat.{ℕ, _+_, _*_, _-_, _<_, min}
 use native.Mathlib.Omega.{arith}
 use mathlib.Core.Path.{_≡_, refl, sym, ap, _∙_}
 use mathlib.Core.List.{List}
 use lib.Ieee.{Float}
-use lib.ListN.{length, getD, set, drop, replicate, length-replicate}
+use lib.ListN.{length, getD, drop, length-replicate}
 use denote.Ref.{now}
 use Rattle.heap.specs.Greedy.{headOf, takes}
 use Rattle.heap.proofs.Turns.{going-done, going-stops, going-leaves, going-takes}

@@ -1,5 +1,5 @@
 -- `mean::expect` meets its contract, model by model. Assumes nothing.
-use mathlib.Core.Path.{_≡_, sym, ap, _∙_}
+use mathlib.Core.Path.{sym, ap, _∙_}
 use native.Mathlib.Omega.{arith}
 use denote.Ref.{now}
 use Rattle.acceptance.specs.declared.AcceptanceModel.{AcceptanceModel}

@@ -1,5 +1,4 @@
 -- `mean::mean_depth` meets its contract. Assumes nothing.
-use mathlib.Core.Path.{_≡_}
 use native.Mathlib.Omega.{arith}
 use lib.ListN.{length-take}
 use denote.Ref.{now}

@@ -1,5 +1,5 @@
 -- `toward::held_of` meets its contract. Assumes nothing.
-use mathlib.Core.Path.{_≡_, ap}
+use mathlib.Core.Path.{ap}
 use lib.Ieee.{Float}
 use borrow.Author.Needs.{needs}
 use Rattle.deciding.proofs.toward.held_of.Statement.{statement}

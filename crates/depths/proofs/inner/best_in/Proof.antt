@@ -1,12 +1,11 @@
 -- `inner::best_in` meets its contract. The loop's invariant: the best of what is left, from the best so far on, is the best of the whole.
 -- The measure is what is left. Assumes nothing.
-use mathlib.Core.Path.{_≡_, refl, sym, _∙_, ap}
+use mathlib.Core.Path.{_≡_, sym, _∙_, ap}
 use Prim.Native.Nat.{ℕ, _+_, _-_, _≤_}
 use native.Mathlib.Numerals.{add-one}
 use native.Mathlib.Omega.{arith}
 use lib.ListN.{length, drop}
 use denote.Ref.{now}
-use Rattle.depths.specs.declared.inner.Best.{Best}
 use Rattle.depths.specs.Worths.{unweighed, raisedFrom}
 use Rattle.depths.proofs.Worths.{raised-next, raised-ended}
 use borrow.Author.Needs.{needs}

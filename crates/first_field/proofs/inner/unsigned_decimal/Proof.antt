@@ -1,6 +1,5 @@
 -- `numeral::front::unsigned_decimal` meets its contract: digits, a point and digits up to the end are a law of `FirstField`, the rest is read as a text of its own. Assumes nothing.
 use mathlib.Core.Path.{_≡_, sym, ap, _∙_}
-use mathlib.Core.List.{List}
 use Prim.Native.Nat.{ℕ, _+_, _-_, _^_, _≤_}
 use native.Mathlib.Omega.{arith}
 use lib.ListN.{length, take, drop, length-drop}

@@ -1,6 +1,5 @@
 -- `numeral::front::unsigned_refusal` meets its contract: digits, a point and digits up to the end are a law of `FirstField`, the rest is judged as a text of its own. Assumes nothing.
 use mathlib.Core.Path.{sym, ap, _∙_}
-use mathlib.Core.List.{List}
 use mathlib.Core.Bool.{false}
 use Prim.Native.Nat.{ℕ, _+_, _-_, _≤_}
 use native.Mathlib.Omega.{arith}

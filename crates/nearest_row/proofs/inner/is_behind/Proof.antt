@@ -1,6 +1,5 @@
 -- `inner::is_behind` meets its contract. Assumes nothing.
 use borrow.Author.Tests.{lt-ltb, le-ltb, eq-eqb, ne-eqb}
-use native.Mathlib.Omega.{arith}
 use Rattle.nearest_row.specs.Place.{behindTaken}
 use borrow.Author.Needs.{needs}
 use Rattle.nearest_row.proofs.inner.is_behind.Statement.{statement}

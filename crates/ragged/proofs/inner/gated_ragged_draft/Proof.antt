@@ -1,6 +1,4 @@
 -- `inner::gated_ragged_draft` meets its contract, by those of the functions that it calls. Assumes nothing.
-use Prim.Native.Nat.{ℕ}
-use mathlib.Core.Path.{_≡_}
 use native.Mathlib.Omega.{arith}
 use denote.Ref.{now}
 use Rattle.verdict.specs.Price.{verifyCost}

@@ -1,5 +1,4 @@
 -- `inner::trim` meets its contract. Assumes nothing.
-use mathlib.Core.Path.{_≡_}
 use borrow.Author.Needs.{needs}
 use Rattle.ragged.proofs.inner.trim.Statement.{statement}
 use Rattle.ragged.proofs.inner.trim.Tie as tie

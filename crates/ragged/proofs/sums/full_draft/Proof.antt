@@ -1,5 +1,4 @@
 -- `sums::full_draft` meets its contract, by those of the functions that it calls. Assumes nothing.
-use native.Mathlib.Omega.{arith}
 use denote.Ref.{now}
 use Rattle.trim.specs.Kept.{listed}
 use Rattle.trim.proofs.Adding.{full-sums}

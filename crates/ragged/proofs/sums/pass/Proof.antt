@@ -1,5 +1,5 @@
 -- `sums::pass` meets its contract. Assumes nothing.
-use mathlib.Core.Path.{_≡_, ap, _∙_}
+use mathlib.Core.Path.{ap, _∙_}
 use lib.Ieee.{Float}
 use Rattle.speculative.specs.Drafter.{passSeconds}
 use borrow.Author.Needs.{needs}

@@ -1,8 +1,8 @@
 -- `sums::tokens` meets its contract. The invariant: the sum of what is left, from the sum so far on, is that of the whole. Assumes nothing.
-use Prim.Native.Nat.{ℕ, _-_, _≤_, _+_, _^_}
+use Prim.Native.Nat.{_-_, _≤_}
 use mathlib.Core.Path.{_≡_, refl, sym, _∙_}
 use native.Mathlib.Omega.{arith}
-use lib.ListN.{length, drop, getD}
+use lib.ListN.{length, drop}
 use denote.Ref.{now}
 use Rattle.float.specs.Floats.{f0}
 use Rattle.trim.specs.Ragged.{tokensFrom}

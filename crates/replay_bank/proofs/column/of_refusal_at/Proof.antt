@@ -1,7 +1,7 @@
 -- `column::of_refusal_at` ends and stays in the column. Assumes nothing.
 use mathlib.Core.Path.{_≡_}
 use Prim.Native.Nat.{_≤_, _-_}
-use lib.ListN.{length, length-set}
+use lib.ListN.{length}
 use borrow.Author.Needs.{needs}
 use Rattle.replay_bank.proofs.column.of_refusal_at.Statement.{statement}
 use Rattle.replay_bank.proofs.column.of_refusal_at.Tie as tie

@@ -1,6 +1,5 @@
 -- `calls::refusals` ends. Assumes nothing.
 use Prim.Native.Nat.{_≤_, _-_}
-use lib.ListN.{length}
 use borrow.Author.Needs.{needs}
 use Rattle.replay_ledger.proofs.calls.refusals.Statement.{statement}
 use Rattle.replay_ledger.proofs.calls.refusals.Tie as tie

@@ -1,12 +1,10 @@
 -- `batch::are_finite` meets its contract: from each sequence on, the answer is that of the rounds left. Assumes nothing.
 use mathlib.Core.Path.{_≡_, refl, sym, ap, _∙_}
 use mathlib.Core.Bool.{true, false}
-use mathlib.Core.List.{List}
 use Prim.Native.Nat.{_≤_, _-_}
 use native.Mathlib.Omega.{arith}
 use denote.Ref.{now}
 use lib.ListN.{length, drop}
-use lib.Ieee.{Float}
 use Rattle.float.specs.Floats.{isFinite}
 use Rattle.chains.specs.Tests.{allOf}
 use Rattle.rounds.specs.Signals.{areFinite}

@@ -1,5 +1,5 @@
 -- `batch::lay` meets its contract: the slots are stored one after the other from a place on. Assumes nothing.
-use mathlib.Core.Path.{_≡_, refl}
+use mathlib.Core.Path.{refl}
 use Prim.Native.Nat.{_-_}
 use lib.ListN.{length}
 use lib.Seq.{sets}

@@ -1,10 +1,8 @@
 -- `batch::lay_products` meets its contract: the products are stored one after the other from a place on. Assumes nothing.
-use mathlib.Core.Path.{_≡_, ap}
+use mathlib.Core.Path.{ap}
 use Prim.Native.Nat.{_-_}
-use lib.ListN.{length, getD}
-use lib.Ieee.{nan}
+use lib.ListN.{length}
 use Rattle.float.specs.Floats.{times}
-use Rattle.chains.specs.Survival.{survive}
 use Rattle.rounds.proofs.Multiplying.{Multiplying, multiplying-begins, multiplying-next, multiplying-ends}
 use borrow.Author.Needs.{needs}
 use Rattle.rounds.proofs.batch.lay_products.Statement.{statement}

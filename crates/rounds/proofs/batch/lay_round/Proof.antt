@@ -1,7 +1,6 @@
 -- `batch::lay_round` meets its contract: where all confidences are there, they are the signal. Assumes nothing.
 use mathlib.Core.Path.{_≡_, sym, ap, _∙_}
 use mathlib.Core.List.{List}
-use Prim.Native.Nat.{_≤_}
 use native.Mathlib.Omega.{arith}
 use denote.Ref.{now}
 use lib.ListN.{length, take}
@@ -9,7 +8,6 @@ use lib.Seq.{sets, length-take-le, take-at}
 use lib.Ieee.{Float}
 use Rattle.float.specs.Floats.{f1}
 use Rattle.chains.specs.Survival.{products}
-use Rattle.rounds.specs.Signals.{slots}
 use Rattle.rounds.proofs.Laying.{slots-length}
 use borrow.Author.Needs.{needs}
 use Rattle.rounds.proofs.batch.lay_round.Statement.{statement}

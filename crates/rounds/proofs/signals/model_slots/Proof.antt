@@ -1,9 +1,9 @@
 -- `signals::model_slots` meets its contract: the model's values are stored one after the other over 64 zeros. Assumes nothing.
-use mathlib.Core.Path.{_≡_, refl, sym, ap, _∙_}
-use Prim.Native.Nat.{_-_, _+_, _≤_, _<_}
+use mathlib.Core.Path.{refl, sym, _∙_}
+use Prim.Native.Nat.{_-_, _≤_, _<_}
 use native.Mathlib.Omega.{arith}
 use denote.Ref.{now}
-use lib.ListN.{length, set}
+use lib.ListN.{length}
 use Rattle.rounds.specs.Signals.{slots, valuesFrom}
 use Rattle.rounds.proofs.Laid.{Storing, storing-begins, storing-value, storing-ends, stored-slots}
 use Rattle.rounds.proofs.Parts.{values-length, value-at}

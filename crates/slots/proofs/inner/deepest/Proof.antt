@@ -1,8 +1,8 @@
 -- `inner::deepest` meets its contract. Assumes nothing.
 use Prim.Native.Nat.{ℕ, _-_, _*_}
-use mathlib.Core.Path.{_≡_, sym, ap, _∙_}
+use mathlib.Core.Path.{sym, ap, _∙_}
 use mathlib.Core.Option.{Option, some}
-use lib.Ieee.{Float, nan}
+use lib.Ieee.{nan}
 use lib.ListN.{drop}
 use lib.Seq.{getD-drop}
 use denote.Ref.{now}

@@ -2,7 +2,6 @@
 use mathlib.Core.Path.{ap, _∙_}
 use mathlib.Core.List.{List}
 use Prim.Native.Nat.{ℕ}
-use native.Mathlib.Omega.{arith}
 use denote.Ref.{now}
 use Rattle.switching.specs.Deciding.{walked}
 use Rattle.switching.proofs.Steps.{goes, waits}

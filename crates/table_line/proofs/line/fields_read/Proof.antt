@@ -1,7 +1,5 @@
 -- `measured::line::fields_read` meets its contract: each way out is a law of the three numbers. Assumes nothing.
 use mathlib.Core.Path.{sym, ap, _∙_}
-use mathlib.Core.List.{List}
-use Prim.Native.Nat.{ℕ}
 use Rattle.trimming.specs.Trim.{trimmed}
 use Rattle.numeral.specs.Spelling.{wholeOf}
 use Rattle.decimals.specs.Decimals.{decimalOf}

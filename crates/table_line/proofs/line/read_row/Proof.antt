@@ -8,7 +8,7 @@ use lib.Seq.{length-take-le}
 use Rattle.blocks.specs.Blocks.{find}
 use Rattle.text.specs.Fields.{fields}
 use Rattle.text.proofs.Laws.{fields-last}
-use Rattle.text.proofs.Walk.{field-last, field-next}
+use Rattle.text.proofs.Walk.{field-next}
 use Rattle.table_line.proofs.Laws.{row-of-one, row-of-two, row-of-more, row-of-three}
 use borrow.Author.Needs.{needs}
 use Rattle.table_line.proofs.line.read_row.Statement.{statement}

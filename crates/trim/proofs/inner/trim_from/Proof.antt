@@ -1,5 +1,4 @@
 -- `inner::trim_from` meets its contract, by those of the functions that it calls. Assumes nothing.
-use mathlib.Core.Path.{_≡_, _∙_}
 use native.Mathlib.Omega.{arith}
 use borrow.Author.Needs.{needs}
 use Rattle.trim.proofs.inner.trim_from.Statement.{statement}

@@ -1,6 +1,6 @@
 -- `inner::weigh` meets its contract. Assumes nothing.
 use Prim.Native.Nat.{_-_}
-use mathlib.Core.Path.{_≡_, ap, _∙_}
+use mathlib.Core.Path.{ap, _∙_}
 use lib.Ieee.{Float}
 use lib.ListN.{getD}
 use denote.Ref.{now}

@@ -1,14 +1,13 @@
 -- `inner::weigh_all` meets its contract. The loop's invariant is `Trimming`, that the code is in step with the definition, `Counts`, that the
 -- passes' counts are those of the widths, and that the tally's rate is that of its sums. The measure is the number of slots that are not weighed yet, at
 -- most. Assumes nothing.
-use Prim.Native.Nat.{ℕ, _+_, _*_, _-_, _≤_, _<_}
+use Prim.Native.Nat.{ℕ, _*_, _-_}
 use native.Mathlib.Omega.{arith}
 use mathlib.Core.Path.{_≡_, refl, sym, ap, _∙_}
 use mathlib.Core.Bool.{Bool, true, false, cond}
 use mathlib.Core.List.{List}
 use lib.Dec.{leb}
-use lib.Ieee.{Float}
-use lib.ListN.{length, getD, set, drop}
+use lib.ListN.{getD, drop}
 use lib.Seq.{length-take-le}
 use denote.Ref.{now}
 use Rattle.float.proofs.Classes.{clash}

@@ -1,5 +1,5 @@
 -- `left::margin` meets its contract. Assumes nothing.
-use mathlib.Core.Path.{_≡_, refl}
+use mathlib.Core.Path.{refl}
 use Rattle.trim.specs.Ragged.{marginOf}
 use borrow.Author.Needs.{needs}
 use Rattle.trim.proofs.left.margin.Statement.{statement}

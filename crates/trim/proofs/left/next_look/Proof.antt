@@ -1,5 +1,4 @@
 -- `left::next_look` meets its contract. Assumes nothing.
-use mathlib.Core.Path.{_≡_}
 use borrow.Author.Tests.{le-leb, lt-leb}
 use borrow.Author.Needs.{needs}
 use Rattle.trim.proofs.left.next_look.Statement.{statement}

@@ -1,5 +1,4 @@
 -- `left::pays` meets its contract. Assumes nothing.
-use mathlib.Core.Path.{_≡_}
 use borrow.Author.Needs.{needs}
 use Rattle.trim.proofs.left.pays.Statement.{statement}
 use Rattle.trim.proofs.left.pays.Tie as tie

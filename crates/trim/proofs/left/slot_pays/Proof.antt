@@ -1,6 +1,6 @@
 -- `left::slot_pays` meets its contract. Assumes nothing.
 use Prim.Native.Nat.{_-_}
-use mathlib.Core.Path.{_≡_, ap, _∙_}
+use mathlib.Core.Path.{ap, _∙_}
 use lib.Ieee.{Float, lt}
 use lib.ListN.{getD}
 use denote.Ref.{now}

@@ -1,5 +1,4 @@
 -- `inner::rate` meets its contract. Assumes nothing.
-use mathlib.Core.Path.{_≡_}
 use borrow.Author.Needs.{needs}
 use Rattle.verdict.proofs.inner.rate.Statement.{statement}
 use Rattle.verdict.proofs.inner.rate.Tie as tie

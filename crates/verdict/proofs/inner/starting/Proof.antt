@@ -1,10 +1,10 @@
 -- `inner::starting` meets its contract: the price is that of the tokens. Assumes nothing.
-use mathlib.Core.Path.{_≡_, refl, ap, _∙_}
+use mathlib.Core.Path.{_≡_, refl, ap}
 use lib.Ieee.{Float}
 use denote.Ref.{now}
 use Rattle.verdict.specs.Price.{verifyCost}
 use Rattle.float.specs.Floats.{plus}
-use Rattle.verdict.specs.Decision.{Sums, rateOf}
+use Rattle.verdict.specs.Decision.{rateOf}
 use Rattle.verdict.specs.Tallies.{sumsOf, Rated, tallied}
 use Rattle.verdict.specs.declared.inner.Tally.{Tally}
 use borrow.Author.Needs.{needs}

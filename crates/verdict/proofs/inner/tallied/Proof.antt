@@ -1,5 +1,4 @@
 -- `inner::tallied` meets its contract. Assumes nothing.
-use mathlib.Core.Path.{_≡_}
 use borrow.Author.Needs.{needs}
 use Rattle.verdict.proofs.inner.tallied.Statement.{statement}
 use Rattle.verdict.proofs.inner.tallied.Tie as tie

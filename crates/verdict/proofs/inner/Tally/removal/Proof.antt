@@ -1,5 +1,4 @@
 -- `inner::Tally::removal` meets its contract. Assumes nothing.
-use mathlib.Core.Path.{_≡_}
 use Rattle.verdict.proofs.Verdicts.{removed, kept}
 use borrow.Author.Needs.{needs}
 use Rattle.verdict.proofs.inner.Tally.removal.Statement.{statement}

@@ -1,5 +1,5 @@
 -- `inner::Tally::slot` meets its contract. Assumes nothing.
-use mathlib.Core.Path.{_≡_, sym, _∙_}
+use mathlib.Core.Path.{sym, _∙_}
 use borrow.Author.Tests.{not-true, not-false}
 use Rattle.verdict.proofs.Verdicts.{unpriced, added, ended}
 use borrow.Author.Needs.{needs}

@@ -1,5 +1,4 @@
 -- `inner::Tally::with_slot` meets its contract. Assumes nothing.
-use mathlib.Core.Path.{_≡_, ap, _∙_}
 use denote.Ref.{now}
 use Rattle.verdict.specs.Price.{verifyCost}
 use Rattle.verdict.proofs.Verdicts.{slot-decided, slot-rated}
