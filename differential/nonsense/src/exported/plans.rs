@@ -3,7 +3,7 @@ use crate::exported::{compare, Refusal};
 use crate::function::{plain, Function};
 use crate::host::declared::{Ask, Settings};
 use crate::host::plan_inputs::{inputs, Inputs};
-use crate::host::plans::{lend_lists, Buffers, Words, FLOATS};
+use crate::host::plans::{lend_lists, Buffers, Words};
 use crate::host::settings::world_of;
 use crate::host::storages::Storages;
 use crate::ledger::layout::ROOM;
@@ -11,9 +11,7 @@ use crate::lent::Lent;
 use crate::turn::Turn;
 use numbers::dice::Dice;
 use oracle::planners::judge::{asked, is_set};
-use oracle::planners::plan::Plan;
 use oracle::planners::world::{World, POSITIONS};
-use std::rc::Rc;
 
 // Of each list the address of a lent buffer and its length.
 unsafe extern "C" {
@@ -137,31 +135,11 @@ impl Function for AskedRefusal {
         turn.lend("storage", &mut lent.storage, words);
         let wholes = lend_lists(turn, &inputs, &mut lent.floats, &mut lent.wholes);
         let answered = refused(lent, &inputs);
-        let plan = plan(&inputs, words);
+        let rooms = [words.len(), inputs.drafts, inputs.commits];
+        let plan = inputs.plan(world(&inputs), rooms);
         compare(turn, answered, Refusal(asked(&plan, &Words(words))));
         turn.left("storage", &lent.storage, words);
-        for ((list, name), lent) in FLOATS.iter().zip(&lent.floats) {
-            turn.left(name, lent, &inputs.lists[*list]);
-        }
-        turn.left("draws", &lent.floats[6], &inputs.draws);
-        for (lent, list) in lent.wholes.iter().zip(&wholes) {
-            turn.left("a list of whole numbers", lent, list);
-        }
-    }
-}
-
-fn plan(inputs: &Inputs, words: &[u64]) -> Plan {
-    Plan {
-        world: Rc::new(world(inputs)),
-        draws: inputs.draws.clone(),
-        indices: inputs.indices.clone(),
-        a: inputs.ask.a,
-        b: inputs.ask.b,
-        sequences: inputs.ask.sequences,
-        end: inputs.ask.end.to_bits(),
-        storage: words.len(),
-        drafts: inputs.drafts,
-        commits: inputs.commits,
+        lent.lists_left(turn, &inputs, &wholes);
     }
 }
 

@@ -27,6 +27,24 @@ pub struct Inputs {
     pub commits: usize,
 }
 
+impl Inputs {
+    /// The plan that they ask for in a world, over so many words and slots of drafts and commits.
+    pub fn plan(&self, world: World, [storage, drafts, commits]: [usize; 3]) -> Plan {
+        Plan {
+            world: Rc::new(world),
+            draws: self.draws.clone(),
+            indices: self.indices.clone(),
+            a: self.ask.a,
+            b: self.ask.b,
+            sequences: self.ask.sequences,
+            end: self.ask.end.to_bits(),
+            storage,
+            drafts,
+            commits,
+        }
+    }
+}
+
 /// Where bits come from.
 type Bits<'a> = &'a mut dyn FnMut(&mut Dice) -> u64;
 

@@ -28,18 +28,8 @@ pub fn defined(
     let Some(world) = world_of(&inputs.settings, &inputs.ask, inputs.lists.clone()) else {
         return refused(12);
     };
-    let plan = Plan {
-        world: Rc::new(world),
-        draws: inputs.draws.clone(),
-        indices: inputs.indices.clone(),
-        a: inputs.ask.a,
-        b: inputs.ask.b,
-        sequences: inputs.ask.sequences,
-        end: inputs.ask.end.to_bits(),
-        storage: words.len(),
-        drafts: slots[0].len(),
-        commits: slots[1].len(),
-    };
+    let rooms = [words.len(), slots[0].len(), slots[1].len()];
+    let plan = inputs.plan(world, rooms);
     match judged(&plan, &Words(words)) {
         Judged::Refused(number) => refused(number),
         Judged::Empty => {

@@ -42,7 +42,7 @@ pub fn functions() -> Vec<Box<dyn Function>> {
 }
 
 /// The lists of a plan that are floats, in the order in which it takes them; the draws are the last.
-pub const FLOATS: [(usize, &str); 6] = [
+const FLOATS: [(usize, &str); 6] = [
     (POSITIONS, "positions"),
     (ROOFLINE, "roofline"),
     (SECONDS, "seconds"),
@@ -113,13 +113,7 @@ impl Function for Plans {
         turn.left("storage", &lent.storage, words);
         turn.left("drafts", &lent.drafts, &slots[0]);
         turn.left("commits", &lent.commits, &slots[1]);
-        for ((list, name), lent) in FLOATS.iter().zip(&lent.floats) {
-            turn.left(name, lent, &inputs.lists[*list]);
-        }
-        turn.left("draws", &lent.floats[6], &inputs.draws);
-        for (lent, list) in lent.wholes.iter().zip(&wholes) {
-            turn.left("a list of whole numbers", lent, list);
-        }
+        lent.lists_left(turn, &inputs, &wholes);
     }
 }
 
@@ -145,6 +139,17 @@ pub fn lend_lists(
 }
 
 impl Buffers {
+    /// The lists that are read are as they were lent.
+    pub fn lists_left(&self, turn: &mut Turn, inputs: &Inputs, wholes: &[Vec<u32>; 4]) {
+        for ((list, name), lent) in FLOATS.iter().zip(&self.floats) {
+            turn.left(name, lent, &inputs.lists[*list]);
+        }
+        turn.left("draws", &self.floats[6], &inputs.draws);
+        for (lent, list) in self.wholes.iter().zip(wholes) {
+            turn.left("a list of whole numbers", lent, list);
+        }
+    }
+
     fn planned(&mut self, inputs: &Inputs) -> Planned {
         let [positions, roofline, seconds, loaded, signals, curve, draws] = &self.floats;
         let [depths, batches, commits, indices] = &self.wholes;
