@@ -8,7 +8,7 @@ use speculative::inner::seconds;
 ghost use mathlib.Core.Path.{_≡_};
 ghost use Prim.Native.Nat.{_≤_, _<_};
 ghost use lib.ListN.{length};
-ghost use Rattle.verdict.specs.Price.{verifyCost};
+ghost use Rattle.verify_prices.specs.Price.{verifyCost};
 ghost use Rattle.slots.specs.Gate.{Chosen};
 ghost use Rattle.slots.specs.Slots.{Fits};
 ghost use Rattle.block.specs.Block.{blockGate};

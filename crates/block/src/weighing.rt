@@ -10,7 +10,7 @@ ghost use Prim.Native.Nat.{_+_, _-_, _*_, _≤_, _<_, min};
 ghost use lib.ListN.{length, getD, set, drop, replicate};
 ghost use Rattle.heap.specs.Heap.{Stands, Holds, candidate};
 ghost use Rattle.heap.specs.Greedy.{headOf, frontier};
-ghost use Rattle.verdict.specs.Price.{verifyCost};
+ghost use Rattle.verify_prices.specs.Price.{verifyCost};
 ghost use Rattle.verdict.specs.Decision.{slotAt};
 ghost use Rattle.verdict.specs.Tallies.{sumsOf, decisionOf, Rated, StillRated};
 ghost use Rattle.slots.specs.Gate.{Chosen};

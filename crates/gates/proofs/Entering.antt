@@ -32,7 +32,7 @@ use Rattle.slots.specs.Slots.{Fits}
 use Rattle.slots.specs.Gate.{Chosen}
 use Rattle.block.specs.Block.{blockGate}
 use Rattle.trim.specs.Ragged.{raggedGate}
-use Rattle.verdict.specs.Price.{verifyCost}
+use Rattle.verify_prices.specs.Price.{verifyCost}
 use Rattle.gates.specs.declared.Gated.the-variants.{Weighed, Refused}
 use Rattle.gates.specs.Entry.{Left, roomRefusal, leftUnless, depthOf, gateRefusal, raggedChosen, blockChosen, raggedAnswer, blockAnswer}
 

@@ -12,7 +12,7 @@ use Rattle.goodput_judges.specs.Refusals.{sizesRefusal}
 use Rattle.chains.specs.Expected.{expectedOver}
 use Rattle.goodput.specs.Depth.{bestPriced}
 use Rattle.goodput_judges.specs.Refusals.{aggregateRefusal}
-use Rattle.verdict.specs.Price.{verifyCost}
+use Rattle.verify_prices.specs.Price.{verifyCost}
 use Rattle.slots.specs.Gate.{Chosen}
 use Rattle.block.specs.Block.{blockGate}
 use Rattle.trim.specs.Ragged.{raggedGate}

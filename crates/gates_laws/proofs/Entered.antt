@@ -8,7 +8,7 @@ use lib.ListN.{length}
 use lib.Ieee.{Float}
 use Rattle.speculative.specs.declared.drafter.Rates.{Rates}
 use Rattle.speculative.specs.declared.drafter.DrafterCost.{DrafterCost}
-use Rattle.verdict.specs.Price.{verifyCost}
+use Rattle.verify_prices.specs.Price.{verifyCost}
 use Rattle.slots.specs.Slots.{starts, sum}
 use Rattle.slots.specs.Gate.{Chosen}
 use Rattle.gates.specs.Entry.{leftUnless, prices, depthOf, gateRefusal, raggedChosen, blockChosen, raggedAnswer, blockAnswer, gatedNumber, weighedBy}

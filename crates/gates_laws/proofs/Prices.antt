@@ -22,7 +22,7 @@ use Rattle.float.proofs.Clamped.{clamp-low, clamp-high}
 use Rattle.numeral.proofs.Rounding.{whole-held}
 use Rattle.speculative.specs.Drafter.{billion}
 use Rattle.chains.specs.Tests.{isPrice}
-use Rattle.verdict.specs.Price.{meanWidth, verifyCost}
+use Rattle.verify_prices.specs.Price.{meanWidth, verifyCost}
 use Rattle.verdict.specs.Decision.{tiny, rateOf, Sums, passed, nextSeconds, slotAt}
 use Rattle.gates_laws.specs.Holes.{finite, classOf, isHole, depthBelow, isBehind, entryBelow, entryAbove, classAt}
 use Rattle.gates_laws.proofs.Sizes.{Sized, sized-finite, sized-more, whole-sized, sized-plus, sized-less, sized-times}

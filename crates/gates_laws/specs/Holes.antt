@@ -5,7 +5,7 @@ use mathlib.Core.List.{List}
 use lib.ListN.{length, getD}
 use lib.Ieee.{Float, nan, inf, fin, lt}
 use Rattle.float.specs.Floats.{less, whole, f0, isFinite}
-use Rattle.verdict.specs.Price.{meanWidth, segment}
+use Rattle.verify_prices.specs.Price.{meanWidth, segment}
 
 pub data Class : Type 0 where
   finite infinite noNumber : Class

@@ -16,7 +16,7 @@ use Rattle.speculative.specs.declared.drafter.Rates.{Rates}
 use Rattle.speculative.specs.declared.drafter.DrafterCost.{DrafterCost}
 use Rattle.chains.specs.Expected.{AtMost, expectedOver, Fits as Chained}
 use Rattle.depths.specs.Pricing.{depthOver, gateDepth}
-use Rattle.verdict.specs.Price.{verifyCost}
+use Rattle.verify_prices.specs.Price.{verifyCost}
 use Rattle.slots.specs.Slots.{Fits}
 use Rattle.slots.specs.Gate.{Chosen}
 use Rattle.block.specs.Block.{blockGate}

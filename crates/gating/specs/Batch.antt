@@ -9,7 +9,7 @@ use Rattle.speculative.specs.declared.drafter.Rates.{Rates}
 use Rattle.speculative.specs.declared.drafter.DrafterCost.{DrafterCost}
 use Rattle.speculative.specs.Drafter.{isBlock, loadedAt}
 use Rattle.depths.specs.Pricing.{depthOver}
-use Rattle.verdict.specs.Price.{verifyCost}
+use Rattle.verify_prices.specs.Price.{verifyCost}
 use Rattle.slots.specs.Gate.{Chosen}
 use Rattle.block.specs.Block.{blockGate}
 use Rattle.trim.specs.Ragged.{raggedGate}

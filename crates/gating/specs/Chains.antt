@@ -10,7 +10,7 @@ use Rattle.speculative.specs.Drafter.{isBlock}
 use Rattle.speculative.specs.declared.drafter.Rates.{Rates}
 use Rattle.speculative.specs.declared.drafter.DrafterCost.{DrafterCost}
 use Rattle.chains.specs.Expected.{expectedOver}
-use Rattle.verdict.specs.Price.{verifyCost}
+use Rattle.verify_prices.specs.Price.{verifyCost}
 use Rattle.slots.specs.Gate.{Chosen}
 use Rattle.block.specs.Block.{blockGate}
 use Rattle.trim.specs.Ragged.{raggedGate}

@@ -11,7 +11,7 @@ use Rattle.speculative.specs.Drafter.{isBlock, stillDrafting}
 use Rattle.speculative.specs.declared.drafter.Rates.{Rates}
 use Rattle.speculative.specs.declared.drafter.DrafterCost.{DrafterCost}
 use Rattle.verdict.specs.Decision.{Sums, slotAt, removalAt}
-use Rattle.verdict.specs.Price.{verifyCost}
+use Rattle.verify_prices.specs.Price.{verifyCost}
 use Rattle.slots.specs.Slots.{starts, upTo, downFrom, stacks, sum, survival}
 use Rattle.slots.specs.Gate.{Chosen}
 use Rattle.slots.proofs.Stacked.{starts-length, sum-starts}

@@ -13,9 +13,8 @@ use Rattle.speculative.specs.declared.drafter.DrafterCost.{DrafterCost}
 use Rattle.slots.specs.Gate.{Chosen}
 use Rattle.slots.specs.Slots.{Fits, AtMost, starts}
 use Rattle.trim.specs.Ragged.{passOf, raggedWidths, raggedGate}
-use Rattle.slots.proofs.Stacked.{starts-length, starts-at}
+use Rattle.slots.proofs.Stacked.{starts-length, starts-at, starts-zero}
 use Rattle.slots.proofs.Rooms.{fits-starts}
-use Rattle.trim.proofs.Adding.{starts-zero}
 
 -- ---- the ragged gate, which starts from the widths W
 pub ragged-fits :

@@ -1,14 +1,14 @@
 // The ragged gate for a caller that has judged what it lends, and knows the batch's best depth.
 use crate::sums::fill_passes;
 use crate::sums::full_draft;
-use crate::sums::start_widths;
+use slots::inner::start_widths;
 use speculative::drafter::DrafterCost;
 use speculative::drafter::Rates;
 use trim::inner::trim_from;
 ghost use mathlib.Core.Path.{_≡_};
 ghost use Prim.Native.Nat.{_≤_, _<_};
 ghost use lib.ListN.{length};
-ghost use Rattle.verdict.specs.Price.{verifyCost};
+ghost use Rattle.verify_prices.specs.Price.{verifyCost};
 ghost use Rattle.slots.specs.Slots.{Fits, AtMost};
 ghost use Rattle.slots.specs.Gate.{Chosen};
 ghost use Rattle.trim.specs.Ragged.{passOf, raggedWidths, raggedGate};

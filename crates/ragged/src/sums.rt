@@ -12,24 +12,12 @@ ghost use Prim.Native.Nat.{_+_, _-_, _*_, _≤_, _<_};
 ghost use lib.ListN.{length};
 ghost use Rattle.float.specs.Floats.{f0};
 ghost use Rattle.speculative.specs.Drafter.{stillDrafting};
-ghost use Rattle.verdict.specs.Price.{verifyCost};
+ghost use Rattle.verify_prices.specs.Price.{verifyCost};
 ghost use Rattle.verdict.specs.Tallies.{sumsOf, Rated};
-ghost use Rattle.slots.specs.Slots.{Fits, AtMost, starts};
+ghost use Rattle.slots.specs.Slots.{Fits, AtMost};
 ghost use Rattle.ragged.specs.Least.{AtLeast};
 ghost use Rattle.trim.specs.Ragged.{sumFrom, survivalsFrom, tokensFrom, passOf, passesOf, fullDraft};
 ghost use Rattle.trim.specs.Kept.{Counts, Passes, listed};
-
-// Every sequence at the batch's depth, or at its chain's end.
-pub fn start_widths(lengths: &[u32], depth: u32, widths: &mut [u32])
-    requires { ⌜ length (now widths) ≡ length (now lengths) ⌝ }
-    ensures { λ _. ⌜ now (widths .exit) ≡ starts depth (now (lengths .entry)) ⌝ }
-{
-    let mut k = 0usize;
-    while k < lengths.len() {
-        widths[k] = min_u32(depth, lengths[k]);
-        k += 1;
-    }
-}
 
 // The sum of a chain's survivals.
 fn sum_of(chain: &[f64]) -> f64

@@ -15,7 +15,7 @@ use Rattle.depths.specs.Goodput.{exceeded, firstBest, bestOf}
 use Rattle.depths.specs.Pricing.{totalCost}
 use Rattle.heap.specs.Frontier.{next}
 use Rattle.heap.specs.Greedy.{run, greedy}
-use Rattle.verdict.specs.Price.{verifyCost}
+use Rattle.verify_prices.specs.Price.{verifyCost}
 use Rattle.verdict.specs.Decision.{takenIf}
 use Rattle.slots.specs.Slots.{upTo, downFrom, stacks}
 use Rattle.block.specs.Block.{addSlot, blockFrom, blockWidths, blockGate}

@@ -3,10 +3,11 @@ use Prim.Native.Nat.{ℕ, zero, suc, _+_, _-_, _*_, _≤_, _<_, min}
 use mathlib.Core.Path.{_≡_, refl, sym, ap, _∙_}
 use mathlib.Core.List.{List, [], _∷_, _++_, append-nil}
 use mathlib.Core.Option.{Option, none, some}
+use native.Mathlib.Decide.{ℕ-discrete}
 use native.Mathlib.Omega.{arith}
 use native.Mathlib.Numerals.{add-one}
 use lib.ListN.{getD, set, length, take, drop, replicate, length-set, length-take, length-map, List·getD-map, drop-of-length-le}
-use lib.Seq.{drop-drop, drop-cons, getD-take, length-take-le, take-suc, take-all, drop-length}
+use lib.Seq.{drop-drop, drop-cons, getD-take, length-take-le, take-suc, take-all, drop-length, getD-set-same, getD-set-other, ext-getD}
 use lib.Ieee.{Float, nan}
 use Rattle.heap.specs.Heap.{Stands}
 use Rattle.heap.proofs.Frontiers.{append-stands, skip-stands, none-stands, not-some}
@@ -30,6 +31,32 @@ pub starts-narrow : (depth : ℕ) (lengths : List ℕ) → AtMost 64 lengths →
 starts-narrow depth lengths h k l =
     let l′ : k < length lengths = omega (arith, starts-length depth lengths) in
     omega (arith, starts-at depth lengths k l′, h k l′)
+
+pub record Starting (depth : ℕ) (lengths W₀ W : List ℕ) (k : ℕ) : Type 0 where
+  pub long : length W ≡ length W₀
+  pub each : (j : ℕ) → j < k → getD W j 0 ≡ min depth (getD lengths j 0)
+
+pub starting : (depth : ℕ) (lengths W : List ℕ) → Starting depth lengths W W 0
+starting depth lengths W = record { long = refl; each = λ j l. absurd (omega arith) }
+
+pub starting-next :
+    (depth : ℕ) (lengths W₀ W : List ℕ) (k v : ℕ) → k < length W → v ≡ min depth (getD lengths k 0) → Starting depth lengths W₀ W k
+    → Starting depth lengths W₀ (set W k v) (k + 1)
+starting-next depth lengths W₀ W k v h e at = record { long = simp length-set (at .long); each = λ j l. pick j l (ℕ-discrete j k) }
+  where
+    pick : (j : ℕ) → j < k + 1 → Dec (j ≡ k) → getD (set W k v) j 0 ≡ min depth (getD lengths j 0)
+    pick j l (yes p) = rw p (getD-set-same W k v 0 h ∙ e)
+    pick j l (no p) = getD-set-other W k j v 0 p ∙ at .each j (omega arith)
+
+pub starting-done : (depth : ℕ) (lengths W₀ W : List ℕ) (k : ℕ) → length W₀ ≡ length lengths → length lengths ≤ k → Starting depth lengths W₀ W k → W ≡ starts depth lengths
+starting-done depth lengths W₀ W k e l at =
+    let long : length W ≡ length lengths = at .long ∙ e in
+    ext-getD 0 W (starts depth lengths) (long ∙ sym (starts-length depth lengths))
+    (λ j h. at .each j (omega (arith, long)) ∙ sym (starts-at depth lengths j (omega (arith, long))))
+
+pub starts-zero : (depth : ℕ) (lengths : List ℕ) → depth ≡ 0 → starts depth lengths ≡ replicate (length lengths) 0
+starts-zero depth [] z = refl
+starts-zero depth (x ∷ xs) z = let e : min depth x ≡ 0 = omega arith in rw (e, starts-zero depth xs z)
 
 pub sum-narrow : (ws : List ℕ) → AtMost 64 ws → sum ws ≤ length ws * 64
 sum-narrow [] h = omega arith

@@ -4,7 +4,7 @@ ghost use Prim.Native.Nat.{_+_, _*_, _≤_, _<_, min};
 ghost use lib.ListN.{length, drop, replicate};
 ghost use Rattle.heap.specs.Heap.{Stands, candidate};
 ghost use Rattle.heap.specs.Greedy.{headOf, frontier};
-ghost use Rattle.slots.specs.Slots.{Fits, flipped, survival, stacks, downFrom};
+ghost use Rattle.slots.specs.Slots.{Fits, flipped, starts, survival, stacks, downFrom};
 
 // The rank of a sequence's next slot, if it has one.
 pub struct Slot {
@@ -34,6 +34,18 @@ pub fn clear(s: &mut [u32])
     while i < s.len() {
         s[i] = 0;
         i += 1;
+    }
+}
+
+// Every sequence at the batch's depth, or at its chain's end.
+pub fn start_widths(lengths: &[u32], depth: u32, widths: &mut [u32])
+    requires { ⌜ length (now widths) ≡ length (now lengths) ⌝ }
+    ensures { λ _. ⌜ now (widths .exit) ≡ starts depth (now (lengths .entry)) ⌝ }
+{
+    let mut k = 0usize;
+    while k < lengths.len() {
+        widths[k] = min_u32(depth, lengths[k]);
+        k += 1;
     }
 }
 

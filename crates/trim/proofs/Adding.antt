@@ -1,22 +1,20 @@
 -- The sums that the ragged gate starts from: one turn of each loop, and its end. Assumes nothing.
-use Prim.Native.Nat.{ℕ, zero, suc, _+_, _-_, _*_, _≤_, _<_, min}
-use mathlib.Core.Path.{_≡_, refl, sym, _∙_}
+use Prim.Native.Nat.{ℕ, zero, suc, _+_, _-_, _*_, _≤_, _<_}
+use mathlib.Core.Path.{_≡_, refl, _∙_}
 use mathlib.Core.Bool.{Bool, true, false, cond}
 use mathlib.Core.List.{List, [], _∷_}
 use native.Mathlib.Decide.{ℕ-discrete}
 use native.Mathlib.Numerals.{add-one}
 use native.Mathlib.Omega.{arith}
 use lib.Dec.{leb}
-use lib.ListN.{length, getD, set, take, drop, replicate, length-set, drop-of-length-le}
-use lib.Seq.{drop-drop, drop-cons, getD-set-same, getD-set-other, ext-getD}
+use lib.ListN.{length, getD, set, take, drop, length-set, drop-of-length-le}
+use lib.Seq.{drop-drop, drop-cons, getD-set-same, getD-set-other}
 use lib.Ieee.{Float, nan}
 use Rattle.float.specs.Floats.{plus, f0, whole}
 use Rattle.speculative.specs.Drafter.{stillDrafting}
 use Rattle.verdict.specs.Decision.{Sums}
-use Rattle.slots.specs.Slots.{starts}
 use Rattle.trim.specs.Ragged.{sumFrom, survivalsFrom, tokensFrom, marginOf, passesOf, fullDraft}
 use Rattle.trim.specs.Kept.{Counts, Passes, listed}
-use Rattle.slots.proofs.Stacked.{starts-length, starts-at}
 
 -- ---- a chain's survivals
 pub sum-next : (d : ℕ) (acc : Float) (chain : List Float) → d < length chain → sumFrom (plus acc (getD chain d nan)) (drop (d + 1) chain) ≡ sumFrom acc (drop d chain)
@@ -113,30 +111,3 @@ counts-next nk ws d m h e at = record { room = simp length-set (at .room); each 
     pick : (j : ℕ) → j < d + 1 → Dec (j ≡ d) → getD (set nk d m) j 0 ≡ stillDrafting ws (j + 1)
     pick j l (yes p) = rw p (getD-set-same nk d m 0 (omega (arith, at .room)) ∙ e)
     pick j l (no p) = getD-set-other nk d j m 0 p ∙ at .each j (omega arith)
-
--- ---- the widths to start from
-pub record Starting (depth : ℕ) (lengths W₀ W : List ℕ) (k : ℕ) : Type 0 where
-  pub long : length W ≡ length W₀
-  pub each : (j : ℕ) → j < k → getD W j 0 ≡ min depth (getD lengths j 0)
-
-pub starting : (depth : ℕ) (lengths W : List ℕ) → Starting depth lengths W W 0
-starting depth lengths W = record { long = refl; each = λ j l. absurd (omega arith) }
-
-pub starting-next :
-    (depth : ℕ) (lengths W₀ W : List ℕ) (k v : ℕ) → k < length W → v ≡ min depth (getD lengths k 0) → Starting depth lengths W₀ W k
-    → Starting depth lengths W₀ (set W k v) (k + 1)
-starting-next depth lengths W₀ W k v h e at = record { long = simp length-set (at .long); each = λ j l. pick j l (ℕ-discrete j k) }
-  where
-    pick : (j : ℕ) → j < k + 1 → Dec (j ≡ k) → getD (set W k v) j 0 ≡ min depth (getD lengths j 0)
-    pick j l (yes p) = rw p (getD-set-same W k v 0 h ∙ e)
-    pick j l (no p) = getD-set-other W k j v 0 p ∙ at .each j (omega arith)
-
-pub starting-done : (depth : ℕ) (lengths W₀ W : List ℕ) (k : ℕ) → length W₀ ≡ length lengths → length lengths ≤ k → Starting depth lengths W₀ W k → W ≡ starts depth lengths
-starting-done depth lengths W₀ W k e l at =
-    let long : length W ≡ length lengths = at .long ∙ e in
-    ext-getD 0 W (starts depth lengths) (long ∙ sym (starts-length depth lengths))
-    (λ j h. at .each j (omega (arith, long)) ∙ sym (starts-at depth lengths j (omega (arith, long))))
-
-pub starts-zero : (depth : ℕ) (lengths : List ℕ) → depth ≡ 0 → starts depth lengths ≡ replicate (length lengths) 0
-starts-zero depth [] z = refl
-starts-zero depth (x ∷ xs) z = let e : min depth x ≡ 0 = omega arith in rw (e, starts-zero depth xs z)

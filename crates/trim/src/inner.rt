@@ -12,7 +12,7 @@ ghost use Prim.Native.Nat.{_+_, _-_, _*_, _≤_, _<_};
 ghost use lib.ListN.{length, getD, set};
 ghost use Rattle.heap.specs.Heap.{Holds};
 ghost use Rattle.heap.specs.Greedy.{frontier};
-ghost use Rattle.verdict.specs.Price.{verifyCost};
+ghost use Rattle.verify_prices.specs.Price.{verifyCost};
 ghost use Rattle.verdict.specs.Decision.{removalAt};
 ghost use Rattle.verdict.specs.Tallies.{sumsOf, decisionOf, Rated, StillRated};
 ghost use Rattle.slots.specs.Slots.{Fits, AtMost, stacks, downFrom, survival};

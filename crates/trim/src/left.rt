@@ -1,7 +1,7 @@
 // Whether a slot of the sequences that are left pays. Where none does, they are all passed over, in whatever order they are weighed.
 use slots::inner::survival_at;
 use verdict::inner::Tally;
-use verdict::inner::verify_cost;
+use verify_prices::inner::verify_cost;
 ghost use mathlib.Core.Path.{_≡_};
 ghost use mathlib.Core.Bool.{cond, false};
 ghost use Prim.Native.Nat.{_+_, _-_, _*_, _/_, _≤_, _<_};
@@ -9,7 +9,7 @@ ghost use lib.Dec.{leb};
 ghost use lib.ListN.{length, getD};
 ghost use lib.Ieee.{lt};
 ghost use Rattle.float.specs.Floats.{plus, less, f1};
-ghost use Rattle.verdict.specs.Price.{verifyCost};
+ghost use Rattle.verify_prices.specs.Price.{verifyCost};
 ghost use Rattle.verdict.specs.Decision.{rateOf};
 ghost use Rattle.trim.specs.Ragged.{marginOf};
 ghost use Rattle.trim.specs.Kept.{Weighable, listed, paysAt, noneOf};

@@ -1,9 +1,10 @@
-// The verify price between depths, and the verdict of either gate on one slot. A curve has a price for each depth from 0 to gamma.
+// The verdict of either gate on one slot. A curve has a price for each depth from 0 to gamma.
+use verify_prices::inner::verify_cost;
 ghost use mathlib.Core.Path.{_≡_};
-ghost use Prim.Native.Nat.{_<_, _≤_, _-_};
+ghost use Prim.Native.Nat.{_<_, _≤_};
 ghost use lib.ListN.{length};
 ghost use Rattle.float.specs.Floats.{plus, less, f1};
-ghost use Rattle.verdict.specs.Price.{meanWidth, segment, verifyCost};
+ghost use Rattle.verify_prices.specs.Price.{verifyCost};
 ghost use Rattle.verdict.specs.Decision.{rateOf, removalAt, slotAt};
 ghost use Rattle.verdict.specs.Tallies.{tallied, sumsOf, decisionOf, Rated, StillRated, removedAt, addedAt};
 
@@ -20,39 +21,6 @@ pub enum Verdict {
     Pass,
     Stop,
     Take(Tally),
-}
-
-// The mean draft width that `t` verify tokens over `n` sequences imply.
-fn mean_width(gamma: u32, n: u32, t: f64) -> f64
-    ensures { λ r. ⌜ r ≡ meanWidth gamma n t ⌝ }
-{
-    float::clamp(t / n as f64 - 1.0, 0.0, gamma as f64)
-}
-
-// The depth below the width w, and never the last one.
-fn segment_of(gamma: u32, w: f64) -> usize
-    requires { ⌜ 0 < gamma ⌝ }
-    ensures { λ r. ⌜ r ≡ segment gamma w ⌝ }
-{
-    let below = numeral::whole_part(w) as usize;
-    let last = gamma as usize - 1;
-    if below < last { below } else { last }
-}
-
-// The curve's price at that mean width, straight between the two depths around it.
-pub fn verify_cost(curve: &[f64], n: u32, t: f64) -> f64
-    requires { ⌜ (1 < length (now curve)) × (length (now curve) ≤ 65) ⌝ }
-    ensures { λ r. ⌜ r ≡ verifyCost (now (curve .entry)) n t ⌝ }
-{
-    let gamma = (curve.len() - 1) as u32;
-    let w = mean_width(gamma, n, t);
-    let seg = segment_of(gamma, w);
-    let frac = w - seg as f64;
-    if frac > 0.0 {
-        curve[seg] + frac * (curve[seg + 1] - curve[seg])
-    } else {
-        curve[seg]
-    }
 }
 
 // Tokens a second.

@@ -4,7 +4,7 @@ use mathlib.Core.Path.{ap, _∙_}
 use native.Mathlib.Omega.{arith}
 use lib.ListN.{length, replicate}
 use denote.Ref.{now}
-use Rattle.verdict.specs.Price.{verifyCost}
+use Rattle.verify_prices.specs.Price.{verifyCost}
 use Rattle.block.proofs.Whole.{block-none, block-some}
 use borrow.Author.Needs.{needs}
 use Rattle.block.proofs.inner.gated_block_verify.Statement.{statement}

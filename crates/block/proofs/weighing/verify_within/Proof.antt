@@ -2,7 +2,7 @@
 use native.Mathlib.Omega.{arith}
 use lib.ListN.{length}
 use denote.Ref.{now}
-use Rattle.verdict.specs.Price.{verifyCost}
+use Rattle.verify_prices.specs.Price.{verifyCost}
 use Rattle.block.proofs.Whole.{block-started}
 use borrow.Author.Needs.{needs}
 use Rattle.block.proofs.weighing.verify_within.Statement.{statement}

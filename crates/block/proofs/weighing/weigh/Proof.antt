@@ -2,7 +2,7 @@
 use mathlib.Core.Path.{ap, _∙_}
 use lib.Ieee.{Float}
 use denote.Ref.{now}
-use Rattle.verdict.specs.Price.{verifyCost}
+use Rattle.verify_prices.specs.Price.{verifyCost}
 use Rattle.verdict.specs.Decision.{slotAt}
 use Rattle.verdict.specs.Tallies.{sumsOf}
 use borrow.Author.Needs.{needs}

@@ -9,7 +9,7 @@ use lib.ListN.{length, getD, drop, length-replicate}
 use denote.Ref.{now}
 use Rattle.heap.specs.Greedy.{headOf, takes}
 use Rattle.heap.proofs.Turns.{going-done, going-stops, going-leaves, going-takes}
-use Rattle.verdict.specs.Price.{verifyCost}
+use Rattle.verify_prices.specs.Price.{verifyCost}
 use Rattle.verdict.specs.Tallies.{sumsOf, decisionOf, Rated}
 use Rattle.verdict.specs.declared.inner.Tally.{Tally}
 use Rattle.verdict.specs.declared.inner.Verdict.{Verdict}

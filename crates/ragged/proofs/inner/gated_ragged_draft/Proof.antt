@@ -1,7 +1,7 @@
 -- `inner::gated_ragged_draft` meets its contract, by those of the functions that it calls. Assumes nothing.
 use native.Mathlib.Omega.{arith}
 use denote.Ref.{now}
-use Rattle.verdict.specs.Price.{verifyCost}
+use Rattle.verify_prices.specs.Price.{verifyCost}
 use Rattle.ragged.proofs.Whole.{ragged-none, ragged-some, ragged-fits}
 use borrow.Author.Needs.{needs}
 use Rattle.ragged.proofs.inner.gated_ragged_draft.Statement.{statement}

@@ -3,7 +3,7 @@ use Prim.Native.Nat.{ℕ}
 use native.Mathlib.Omega.{arith}
 use lib.ListN.{length, length-replicate}
 use denote.Ref.{now}
-use Rattle.verdict.specs.Price.{verifyCost}
+use Rattle.verify_prices.specs.Price.{verifyCost}
 use Rattle.trim.specs.Ragged.{passOf}
 use Rattle.ragged.proofs.Listing.{from-listed}
 use borrow.Author.Needs.{needs}

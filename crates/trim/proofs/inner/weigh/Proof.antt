@@ -4,7 +4,7 @@ use mathlib.Core.Path.{ap, _∙_}
 use lib.Ieee.{Float}
 use lib.ListN.{getD}
 use denote.Ref.{now}
-use Rattle.verdict.specs.Price.{verifyCost}
+use Rattle.verify_prices.specs.Price.{verifyCost}
 use Rattle.verdict.specs.Decision.{removalAt}
 use Rattle.verdict.specs.Tallies.{sumsOf}
 use Rattle.slots.specs.Slots.{survival}

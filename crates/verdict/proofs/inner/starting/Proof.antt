@@ -2,7 +2,7 @@
 use mathlib.Core.Path.{_≡_, refl, ap}
 use lib.Ieee.{Float}
 use denote.Ref.{now}
-use Rattle.verdict.specs.Price.{verifyCost}
+use Rattle.verify_prices.specs.Price.{verifyCost}
 use Rattle.float.specs.Floats.{plus}
 use Rattle.verdict.specs.Decision.{rateOf}
 use Rattle.verdict.specs.Tallies.{sumsOf, Rated, tallied}

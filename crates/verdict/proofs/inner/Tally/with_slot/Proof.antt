@@ -1,6 +1,6 @@
 -- `inner::Tally::with_slot` meets its contract. Assumes nothing.
 use denote.Ref.{now}
-use Rattle.verdict.specs.Price.{verifyCost}
+use Rattle.verify_prices.specs.Price.{verifyCost}
 use Rattle.verdict.proofs.Verdicts.{slot-decided, slot-rated}
 use borrow.Author.Needs.{needs}
 use Rattle.verdict.proofs.inner.Tally.with_slot.Statement.{statement}

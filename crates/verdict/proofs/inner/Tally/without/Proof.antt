@@ -1,6 +1,6 @@
 -- `inner::Tally::without` meets its contract. Assumes nothing.
 use denote.Ref.{now}
-use Rattle.verdict.specs.Price.{verifyCost}
+use Rattle.verify_prices.specs.Price.{verifyCost}
 use Rattle.verdict.proofs.Verdicts.{removal-decided, removal-rated}
 use borrow.Author.Needs.{needs}
 use Rattle.verdict.proofs.inner.Tally.without.Statement.{statement}

@@ -9,10 +9,10 @@ use lib.Ieee.{Float, nan, lt, inFloat}
 use lib.ListN.{length, getD}
 use denote.Ref.{now}
 use Rattle.float.specs.Floats.{plus, less, times, whole, f0}
-use Rattle.verdict.specs.Price.{meanWidth, segment, between, verifyCost}
+use Rattle.verify_prices.specs.Price.{meanWidth, segment, between, verifyCost}
 use borrow.Author.Needs.{needs}
-use Rattle.verdict.proofs.inner.verify_cost.Statement.{statement}
-use Rattle.verdict.proofs.inner.verify_cost.Tie as tie
+use Rattle.verify_prices.proofs.inner.verify_cost.Statement.{statement}
+use Rattle.verify_prices.proofs.inner.verify_cost.Tie as tie
 
 -- the two ways of `between`, at the width and the depth that the calls gave
 

@@ -1,12 +1,12 @@
--- `sums::start_widths` meets its contract. Assumes nothing.
+-- `inner::start_widths` meets its contract. Assumes nothing.
 use Prim.Native.Nat.{_-_}
 use native.Mathlib.Omega.{arith}
 use lib.ListN.{length}
 use denote.Ref.{now}
-use Rattle.trim.proofs.Adding.{Starting, starting, starting-next, starting-done}
+use Rattle.slots.proofs.Stacked.{Starting, starting, starting-next, starting-done}
 use borrow.Author.Needs.{needs}
-use Rattle.ragged.proofs.sums.start_widths.Statement.{statement}
-use Rattle.ragged.proofs.sums.start_widths.Tie as tie
+use Rattle.slots.proofs.inner.start_widths.Statement.{statement}
+use Rattle.slots.proofs.inner.start_widths.Tie as tie
 
 abbrev Inv-loop : tie.InvT-loop
 Inv-loop lengths depth widths₀ k₀ widths k = Starting depth lengths widths₀ widths k
