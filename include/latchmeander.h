@@ -35,6 +35,7 @@ enum { LATCHMEANDER_FIXED, LATCHMEANDER_GOODPUT_BUDGET, LATCHMEANDER_GATED_BUDGE
 enum { LATCHMEANDER_CONSTANT, LATCHMEANDER_PER_POSITION, LATCHMEANDER_TRACE };                                      /* model */
 enum { LATCHMEANDER_FRACTION, LATCHMEANDER_AUTOREGRESSIVE, LATCHMEANDER_BLOCK_PARALLEL };                           /* drafter */
 enum { LATCHMEANDER_UNLIMITED, LATCHMEANDER_AT_MOST };                                                              /* steps */
+enum { LATCHMEANDER_PRICES_DEFAULT, LATCHMEANDER_PRICES_BRIDGED };                                                  /* prices */
 enum { LATCHMEANDER_ROOFLINE, LATCHMEANDER_TABLE };                                                                 /* source */
 
 /* Of the fields that belong to a case, only those of the case that is named are read. */
@@ -56,6 +57,7 @@ typedef struct {
     uint32_t experts_per_tok; /* AUTOREGRESSIVE */
     uint32_t shared_experts;  /* AUTOREGRESSIVE */
     uint32_t block;           /* BLOCK_PARALLEL */
+    uint32_t prices;          /* how a gate prices between depths: by the two around, or by the nearest measured ones (BRIDGED) */
 } latchmeander_settings;
 
 typedef struct {

@@ -10,6 +10,7 @@ use Rattle.speculative.specs.Drafter.{drafterSeconds, loadedAt}
 use Rattle.speculative.specs.declared.drafter.Rates.{Rates}
 use Rattle.speculative.specs.declared.drafter.DrafterCost.{DrafterCost}
 use Rattle.heap.specs.Greedy.{Verdict, greedy}
+use Rattle.verify_prices.specs.Rule.{Rule}
 use Rattle.verdict.specs.Decision.{Sums, slotAt}
 use Rattle.slots.specs.Slots.{starts, upTo, stacks, survival}
 use Rattle.slots.specs.Gate.{State, judged, Chosen, chosenBy}
@@ -31,9 +32,11 @@ module _ (price : Float → Float) (chains : List Float) where
       let n = whole (length lengths) in
       blockFrom depth (record { expected = n; tokens = n; drafter = draft }) lengths
 
-  -- the whole gate, where `depth` is the batch's best. At depth 0 nothing is weighed
-  unfoldable pub blockGate : List ℕ → List Float → ℕ → DrafterCost → Rates → List Float → Chosen
-  blockGate lengths curve depth kind rates loaded =
-      let n = length lengths in
-      cond (eqb depth 0) (record { widths = replicate n 0; weighed = 0 })
-      (blockWidths depth (drafterSeconds kind depth n rates (getD curve depth nan) (loadedAt kind loaded n)) lengths)
+-- the whole gate under a pricing rule, where `depth` is the batch's best. At depth 0 nothing is weighed; where the price of depth 0 is shut, nothing is
+-- weighed either, and every sequence has the block's depth or its chain's length
+unfoldable pub blockGate : Rule → List Float → List ℕ → List Float → ℕ → DrafterCost → Rates → List Float → Chosen
+blockGate rule chains lengths curve depth kind rates loaded =
+    let n = length lengths in
+    cond (eqb depth 0) (record { widths = replicate n 0; weighed = 0 })
+    (cond (rule .shut (getD curve 0 nan)) (record { widths = starts depth lengths; weighed = 0 })
+    (blockWidths (rule .price) chains depth (drafterSeconds kind depth n rates (getD curve depth nan) (loadedAt kind loaded n)) lengths))

@@ -5,12 +5,17 @@ use slots::inner::survival_at;
 use verdict::inner::Tally;
 use verdict::inner::Verdict;
 use verdict::inner::starting;
+use verify_prices::PriceMode;
+use verify_prices::bridging::bridged_cost;
+use verify_prices::bridging::spans_of;
+use verify_prices::inner::verify_cost;
 ghost use mathlib.Core.Path.{_≡_};
 ghost use Prim.Native.Nat.{_+_, _-_, _*_, _≤_, _<_, min};
 ghost use lib.ListN.{length, getD, set, drop, replicate};
 ghost use Rattle.heap.specs.Heap.{Stands, Holds, candidate};
 ghost use Rattle.heap.specs.Greedy.{headOf, frontier};
-ghost use Rattle.verify_prices.specs.Price.{verifyCost};
+ghost use Rattle.verify_prices.specs.Rule.{priceBy, Priced};
+ghost use Rattle.verify_prices.specs.declared.PriceMode.the-variants.{Default, Bridged};
 ghost use Rattle.verdict.specs.Decision.{slotAt};
 ghost use Rattle.verdict.specs.Tallies.{sumsOf, decisionOf, Rated, StillRated};
 ghost use Rattle.slots.specs.Gate.{Chosen};
@@ -68,15 +73,34 @@ fn grow(widths: &mut [u32], k: usize) -> u32
 }
 
 // The verdict on the next slot of sequence k.
-fn weigh(chains: &[f64], curve: &[f64], widths: &[u32], k: usize, n: u32, tally: Tally) -> Verdict
+fn weigh(
+    chains: &[f64],
+    mode: PriceMode,
+    curve: &[f64],
+    spans: &[u8],
+    widths: &[u32],
+    k: usize,
+    n: u32,
+    tally: Tally,
+) -> Verdict
     requires { ⌜ (k * 64 + 64 ≤ length (now chains)) × (k < length (now widths)) × (getD (now widths) k 0 < 64) ⌝ }
-    requires { ⌜ (1 < length (now curve)) × (length (now curve) ≤ 65) ⌝ }
-    requires { ⌜ Rated (verifyCost (now curve) n) tally ⌝ }
-    ensures decided { λ r. ⌜ decisionOf r ≡ slotAt (verifyCost (now (curve .entry)) n) (sumsOf tally) (survival (now (chains .entry)) k (getD (now (widths .entry)) k 0)) ⌝ }
-    ensures rated { λ r. ⌜ StillRated (verifyCost (now (curve .entry)) n) r ⌝ }
+    requires { ⌜ Priced mode (now curve) (now spans) ⌝ }
+    requires { ⌜ Rated (priceBy mode (now curve) n) tally ⌝ }
+    ensures decided { λ r. ⌜ decisionOf r ≡ slotAt (priceBy mode (now (curve .entry)) n) (sumsOf tally) (survival (now (chains .entry)) k (getD (now (widths .entry)) k 0)) ⌝ }
+    ensures rated { λ r. ⌜ StillRated (priceBy mode (now (curve .entry)) n) r ⌝ }
 {
-    let s = survival_at(chains, k, widths[k]);
-    tally.with_slot(s, curve, n)
+    match mode {
+        PriceMode::Default => {
+            let vn = verify_cost(curve, n, tally.tokens + 1.0);
+            let s = survival_at(chains, k, widths[k]);
+            tally.slot(s, vn)
+        }
+        PriceMode::Bridged => {
+            let vn = bridged_cost(curve, spans, n, tally.tokens + 1.0);
+            let s = survival_at(chains, k, widths[k]);
+            tally.slot(s, vn)
+        }
+    }
 }
 
 // Weighs slots until none is left or one does not pay; says how many.
@@ -84,7 +108,9 @@ fn weigh_all(
     chains: &[f64],
     lengths: &[u32],
     depth: u32,
+    mode: PriceMode,
     curve: &[f64],
+    spans: &[u8],
     n: u32,
     start: Tally,
     first: usize,
@@ -93,12 +119,12 @@ fn weigh_all(
     widths: &mut [u32],
 ) -> usize
     requires { ⌜ Fits (now chains) (now lengths) n ⌝ }
-    requires { ⌜ (1 < length (now curve)) × (length (now curve) ≤ 65) ⌝ }
+    requires { ⌜ Priced mode (now curve) (now spans) ⌝ }
     requires { ⌜ (n ≤ length (now rank)) × (n ≤ length (now seq)) × (first ≤ n) ⌝ }
     requires { ⌜ now widths ≡ replicate n 0 ⌝ }
     requires { ⌜ Holds (now rank) (now seq) first (frontier (stacks upTo (starts depth (now lengths)) (now chains))) ⌝ }
-    requires { ⌜ Rated (verifyCost (now curve) n) start ⌝ }
-    ensures { λ w. ⌜ record { widths = now (widths .exit); weighed = w } ≡ blockFrom (verifyCost (now (curve .entry)) n) (now (chains .entry)) depth (sumsOf start) (now (lengths .entry)) ⌝ }
+    requires { ⌜ Rated (priceBy mode (now curve) n) start ⌝ }
+    ensures { λ w. ⌜ record { widths = now (widths .exit); weighed = w } ≡ blockFrom (priceBy mode (now (curve .entry)) n) (now (chains .entry)) depth (sumsOf start) (now (lengths .entry)) ⌝ }
 {
     let mut live = first;
     let mut weighed: usize = 0;
@@ -106,7 +132,7 @@ fn weigh_all(
     while 0 < live {
         let k = seq[0] as usize;
         weighed += 1;
-        let verdict = weigh(chains, curve, widths, k, n, tally);
+        let verdict = weigh(chains, mode, curve, spans, widths, k, n, tally);
         match verdict {
             Verdict::Stop => {
                 return weighed;
@@ -130,27 +156,31 @@ fn verify_within(
     chains: &[f64],
     lengths: &[u32],
     depth: u32,
+    mode: PriceMode,
     curve: &[f64],
+    spans: &[u8],
     draft: f64,
     rank: &mut [u64],
     seq: &mut [u64],
     widths: &mut [u32],
 ) -> usize
     requires { ⌜ Fits (now chains) (now lengths) (length (now lengths)) ⌝ }
-    requires { ⌜ (1 < length (now curve)) × (length (now curve) ≤ 65) ⌝ }
+    requires { ⌜ Priced mode (now curve) (now spans) ⌝ }
     requires { ⌜ (length (now lengths) ≤ length (now rank)) × (length (now lengths) ≤ length (now seq)) ⌝ }
     requires { ⌜ now widths ≡ replicate (length (now lengths)) 0 ⌝ }
-    ensures { λ w. ⌜ record { widths = now (widths .exit); weighed = w } ≡ blockWidths (verifyCost (now (curve .entry)) (length (now (lengths .entry)))) (now (chains .entry)) depth draft (now (lengths .entry)) ⌝ }
+    ensures { λ w. ⌜ record { widths = now (widths .exit); weighed = w } ≡ blockWidths (priceBy mode (now (curve .entry)) (length (now (lengths .entry)))) (now (chains .entry)) depth draft (now (lengths .entry)) ⌝ }
 {
     let n = lengths.len() as u32;
     let live = fill(chains, lengths, depth, rank, seq);
     heap::inner::heapify(rank, seq, live);
-    let start = starting(n as f64, n as f64, draft, curve, n);
+    let start = starting(n as f64, n as f64, draft, mode, curve, spans, n);
     weigh_all(
         chains,
         lengths,
         depth,
+        mode,
         curve,
+        spans,
         n,
         start,
         live,
@@ -165,14 +195,16 @@ fn verify_few(
     chains: &[f64],
     lengths: &[u32],
     depth: u32,
+    mode: PriceMode,
     curve: &[f64],
+    spans: &[u8],
     draft: f64,
     widths: &mut [u32],
 ) -> usize
     requires { ⌜ Fits (now chains) (now lengths) (length (now lengths)) × (length (now lengths) ≤ 64) ⌝ }
-    requires { ⌜ (1 < length (now curve)) × (length (now curve) ≤ 65) ⌝ }
+    requires { ⌜ Priced mode (now curve) (now spans) ⌝ }
     requires { ⌜ now widths ≡ replicate (length (now lengths)) 0 ⌝ }
-    ensures { λ w. ⌜ record { widths = now (widths .exit); weighed = w } ≡ blockWidths (verifyCost (now (curve .entry)) (length (now (lengths .entry)))) (now (chains .entry)) depth draft (now (lengths .entry)) ⌝ }
+    ensures { λ w. ⌜ record { widths = now (widths .exit); weighed = w } ≡ blockWidths (priceBy mode (now (curve .entry)) (length (now (lengths .entry)))) (now (chains .entry)) depth draft (now (lengths .entry)) ⌝ }
 {
     let mut rank = [0u64; 64];
     let mut seq = [0u64; 64];
@@ -180,7 +212,9 @@ fn verify_few(
         chains,
         lengths,
         depth,
+        mode,
         curve,
+        spans,
         draft,
         &mut rank,
         &mut seq,
@@ -193,14 +227,16 @@ fn verify_many(
     chains: &[f64],
     lengths: &[u32],
     depth: u32,
+    mode: PriceMode,
     curve: &[f64],
+    spans: &[u8],
     draft: f64,
     widths: &mut [u32],
 ) -> usize
     requires { ⌜ Fits (now chains) (now lengths) (length (now lengths)) ⌝ }
-    requires { ⌜ (1 < length (now curve)) × (length (now curve) ≤ 65) ⌝ }
+    requires { ⌜ Priced mode (now curve) (now spans) ⌝ }
     requires { ⌜ now widths ≡ replicate (length (now lengths)) 0 ⌝ }
-    ensures { λ w. ⌜ record { widths = now (widths .exit); weighed = w } ≡ blockWidths (verifyCost (now (curve .entry)) (length (now (lengths .entry)))) (now (chains .entry)) depth draft (now (lengths .entry)) ⌝ }
+    ensures { λ w. ⌜ record { widths = now (widths .exit); weighed = w } ≡ blockWidths (priceBy mode (now (curve .entry)) (length (now (lengths .entry)))) (now (chains .entry)) depth draft (now (lengths .entry)) ⌝ }
 {
     let mut rank = [0u64; 1024];
     let mut seq = [0u64; 1024];
@@ -208,7 +244,9 @@ fn verify_many(
         chains,
         lengths,
         depth,
+        mode,
         curve,
+        spans,
         draft,
         &mut rank,
         &mut seq,
@@ -217,7 +255,30 @@ fn verify_many(
 }
 
 // The gate within blocks of the given depth that cost `draft` to make.
-pub fn verify_block(
+fn verify_block(
+    chains: &[f64],
+    lengths: &[u32],
+    depth: u32,
+    mode: PriceMode,
+    curve: &[f64],
+    spans: &[u8],
+    draft: f64,
+    widths: &mut [u32],
+) -> usize
+    requires { ⌜ Fits (now chains) (now lengths) (length (now lengths)) ⌝ }
+    requires { ⌜ Priced mode (now curve) (now spans) ⌝ }
+    requires { ⌜ now widths ≡ replicate (length (now lengths)) 0 ⌝ }
+    ensures { λ w. ⌜ record { widths = now (widths .exit); weighed = w } ≡ blockWidths (priceBy mode (now (curve .entry)) (length (now (lengths .entry)))) (now (chains .entry)) depth draft (now (lengths .entry)) ⌝ }
+{
+    if lengths.len() <= 64 {
+        verify_few(chains, lengths, depth, mode, curve, spans, draft, widths)
+    } else {
+        verify_many(chains, lengths, depth, mode, curve, spans, draft, widths)
+    }
+}
+
+// The same by the default prices, which read no spans.
+fn verify_default(
     chains: &[f64],
     lengths: &[u32],
     depth: u32,
@@ -228,11 +289,65 @@ pub fn verify_block(
     requires { ⌜ Fits (now chains) (now lengths) (length (now lengths)) ⌝ }
     requires { ⌜ (1 < length (now curve)) × (length (now curve) ≤ 65) ⌝ }
     requires { ⌜ now widths ≡ replicate (length (now lengths)) 0 ⌝ }
-    ensures { λ w. ⌜ record { widths = now (widths .exit); weighed = w } ≡ blockWidths (verifyCost (now (curve .entry)) (length (now (lengths .entry)))) (now (chains .entry)) depth draft (now (lengths .entry)) ⌝ }
+    ensures { λ w. ⌜ record { widths = now (widths .exit); weighed = w } ≡ blockWidths (priceBy Default (now (curve .entry)) (length (now (lengths .entry)))) (now (chains .entry)) depth draft (now (lengths .entry)) ⌝ }
 {
-    if lengths.len() <= 64 {
-        verify_few(chains, lengths, depth, curve, draft, widths)
-    } else {
-        verify_many(chains, lengths, depth, curve, draft, widths)
+    let spans = [0u8; 1];
+    verify_block(
+        chains,
+        lengths,
+        depth,
+        PriceMode::Default,
+        curve,
+        &spans,
+        draft,
+        widths,
+    )
+}
+
+// The same by bridged prices: the nearest measured depths are looked for once.
+fn verify_bridged(
+    chains: &[f64],
+    lengths: &[u32],
+    depth: u32,
+    curve: &[f64],
+    draft: f64,
+    widths: &mut [u32],
+) -> usize
+    requires { ⌜ Fits (now chains) (now lengths) (length (now lengths)) ⌝ }
+    requires { ⌜ (1 < length (now curve)) × (length (now curve) ≤ 65) ⌝ }
+    requires { ⌜ now widths ≡ replicate (length (now lengths)) 0 ⌝ }
+    ensures { λ w. ⌜ record { widths = now (widths .exit); weighed = w } ≡ blockWidths (priceBy Bridged (now (curve .entry)) (length (now (lengths .entry)))) (now (chains .entry)) depth draft (now (lengths .entry)) ⌝ }
+{
+    let spans = spans_of(curve);
+    verify_block(
+        chains,
+        lengths,
+        depth,
+        PriceMode::Bridged,
+        curve,
+        &spans,
+        draft,
+        widths,
+    )
+}
+
+// The same by the prices of the mode.
+pub fn verify_by(
+    chains: &[f64],
+    lengths: &[u32],
+    depth: u32,
+    mode: PriceMode,
+    curve: &[f64],
+    draft: f64,
+    widths: &mut [u32],
+) -> usize
+    requires { ⌜ Fits (now chains) (now lengths) (length (now lengths)) ⌝ }
+    requires { ⌜ (1 < length (now curve)) × (length (now curve) ≤ 65) ⌝ }
+    requires { ⌜ now widths ≡ replicate (length (now lengths)) 0 ⌝ }
+    ensures { λ w. ⌜ record { widths = now (widths .exit); weighed = w } ≡ blockWidths (priceBy mode (now (curve .entry)) (length (now (lengths .entry)))) (now (chains .entry)) depth draft (now (lengths .entry)) ⌝ }
+{
+    match mode {
+        PriceMode::Default => verify_default(chains, lengths, depth, curve, draft, widths),
+        PriceMode::Bridged => verify_bridged(chains, lengths, depth, curve, draft, widths),
     }
 }

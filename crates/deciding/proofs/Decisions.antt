@@ -54,7 +54,7 @@ module _ (s : Settings) (a : Ask) (l : Lent) (curve : List Float) where
   -- ---- by the chains
   abbrev gated : Bool → ℕ → List ℕ → Gate
   gated own g drafts =
-      gateOver own (s .drafter) (a .rates) (l .loaded) curve (a .sequences) g (chainsBy (s .model) (l .positions) (l .signals) (a .depth) (l .indices) (a .sequences) g) drafts
+      gateOver own (s .prices) (s .drafter) (a .rates) (l .loaded) curve (a .sequences) g (chainsBy (s .model) (l .positions) (l .signals) (a .depth) (l .indices) (a .sequences) g) drafts
 
   module _ (g depth weighed : ℕ) (D drafts : List ℕ) (p : g ≡ gammaIn s (a .depth)) where
     pub gate-decides : record { depth = depth; weighed = weighed; drafts = D } ≡ gated true g drafts → record { drafts = D; weighed = weighed; change = Nothing } ≡ byGate (looped s a (l .loaded)) s a l curve

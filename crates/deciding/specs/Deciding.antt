@@ -69,7 +69,7 @@ module _ (best : List Float → List Float → ℕ) (s : Settings) (a : Ask) (l 
   byMean = allAt (a .sequences) (best (meanExpected (s .model) (l .positions) (l .bankCurve) (a .depth) (a .sequences) depthIn) curve)
 
   abbrev pub byGate : Decided
-  byGate = each (gateAt (s .drafter) (a .rates) (l .loaded) curve (a .sequences) depthIn chainsIn bestIn)
+  byGate = each (gateAt (s .prices) (s .drafter) (a .rates) (l .loaded) curve (a .sequences) depthIn chainsIn bestIn)
 
   -- an unconstrained setting touches no record
   abbrev pub byAggregate : Past → Decided

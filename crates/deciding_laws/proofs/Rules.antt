@@ -101,7 +101,7 @@ module _ (s : Settings) (a : Ask) (l : Lent) (curve : List Float) (j : Judged s 
   by-policy Fixed e = refl
   by-policy GoodputBudget e = ap (allAt (a .sequences)) (mean e)
   by-policy GatedBudget e =
-      ap (λ (d : ℕ). each (gateAt (s .drafter) (a .rates) (l .loaded) curve (a .sequences) (gammaIn s (a .depth)) (chainsIn best s a l curve) d)) (chained (ap usesCosts e) (ap usesSignals e))
+      ap (λ (d : ℕ). each (gateAt (s .prices) (s .drafter) (a .rates) (l .loaded) curve (a .sequences) (gammaIn s (a .depth)) (chainsIn best s a l curve) d)) (chained (ap usesCosts e) (ap usesSignals e))
   by-policy GatedAggregate e =
       ap (λ (d : ℕ). cond (isUnconstrained (s .switch)) (allAt (a .sequences) d) (allPut (a .sequences) (a .a) (a .b) (toward (s .switch) curve d past))) (chained (ap usesCosts e) (ap usesSignals e))
 

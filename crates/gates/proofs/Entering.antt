@@ -32,7 +32,8 @@ use Rattle.slots.specs.Slots.{Fits}
 use Rattle.slots.specs.Gate.{Chosen}
 use Rattle.block.specs.Block.{blockGate}
 use Rattle.trim.specs.Ragged.{raggedGate}
-use Rattle.verify_prices.specs.Price.{verifyCost}
+use Rattle.verify_prices.specs.Rule.{ruleOf}
+use Rattle.verify_prices.specs.declared.PriceMode.{PriceMode}
 use Rattle.gates.specs.declared.Gated.the-variants.{Weighed, Refused}
 use Rattle.gates.specs.Entry.{Left, roomRefusal, leftUnless, depthOf, gateRefusal, raggedChosen, blockChosen, raggedAnswer, blockAnswer}
 
@@ -148,7 +149,7 @@ module _ (chains : List Float) (lengths : List ℕ) (curve : List Float) (gamma 
             deep = omega (arith, low, p .1);
           }
 
-  module _ (W : List ℕ) (r : ℕ) (e : r ≡ roomRefusal kind gamma (length lengths) (length W)) where
+  module _ (mode : PriceMode) (W : List ℕ) (r : ℕ) (e : r ≡ roomRefusal kind gamma (length lengths) (length W)) where
     early : 0 < r → r ≡ gateRefusal chains lengths curve gamma kind rates loaded (length W)
     unfolding gateRefusal
     early h = first-given r refusal h ∙ ap (λ (x : ℕ). firstOf x refusal) e
@@ -168,13 +169,13 @@ module _ (chains : List Float) (lengths : List ℕ) (curve : List Float) (gamma 
     unfolding aggregateAnswer
     number-of number a = unfound number refusal (depthOf chains lengths curve gamma kind rates loaded) a
 
-    pub ragged-early : 0 < r → _≡_ {A = Left} (record { answer = Refused r; widths = W }) (raggedAnswer chains lengths curve gamma kind rates loaded W)
+    pub ragged-early : 0 < r → _≡_ {A = Left} (record { answer = Refused r; widths = W }) (raggedAnswer chains lengths curve gamma kind rates loaded mode W)
     unfolding raggedAnswer
-    ragged-early h = unless r _ (raggedChosen chains lengths curve gamma kind rates loaded) h (early h)
+    ragged-early h = unless r _ (raggedChosen chains lengths curve gamma kind rates loaded mode) h (early h)
 
-    pub block-early : 0 < r → _≡_ {A = Left} (record { answer = Refused r; widths = W }) (blockAnswer chains lengths curve gamma kind rates loaded W)
+    pub block-early : 0 < r → _≡_ {A = Left} (record { answer = Refused r; widths = W }) (blockAnswer chains lengths curve gamma kind rates loaded mode W)
     unfolding blockAnswer
-    block-early h = unless r _ (blockChosen chains lengths curve gamma kind rates loaded) h (early h)
+    block-early h = unless r _ (blockChosen chains lengths curve gamma kind rates loaded mode) h (early h)
 
     module _ (h : r ≤ 0) where
       refused-late : (q : Chosen) (number : ℕ) → Unfound number ≡ aggregateAnswer chains lengths curve gamma kind rates loaded
@@ -185,14 +186,14 @@ module _ (chains : List Float) (lengths : List ℕ) (curve : List Float) (gamma 
           unless number _ q some (n .1 ∙ late h)
 
       pub ragged-late : (number : ℕ) → Unfound number ≡ aggregateAnswer chains lengths curve gamma kind rates loaded
-          → _≡_ {A = Left} (record { answer = Refused number; widths = W }) (raggedAnswer chains lengths curve gamma kind rates loaded W)
+          → _≡_ {A = Left} (record { answer = Refused number; widths = W }) (raggedAnswer chains lengths curve gamma kind rates loaded mode W)
       unfolding raggedAnswer
-      ragged-late number a = refused-late (raggedChosen chains lengths curve gamma kind rates loaded) number a
+      ragged-late number a = refused-late (raggedChosen chains lengths curve gamma kind rates loaded mode) number a
 
       pub block-late : (number : ℕ) → Unfound number ≡ aggregateAnswer chains lengths curve gamma kind rates loaded
-          → _≡_ {A = Left} (record { answer = Refused number; widths = W }) (blockAnswer chains lengths curve gamma kind rates loaded W)
+          → _≡_ {A = Left} (record { answer = Refused number; widths = W }) (blockAnswer chains lengths curve gamma kind rates loaded mode W)
       unfolding blockAnswer
-      block-late number a = refused-late (blockChosen chains lengths curve gamma kind rates loaded) number a
+      block-late number a = refused-late (blockChosen chains lengths curve gamma kind rates loaded mode) number a
 
       weighed : (g w : ℕ) (after : List ℕ) (q : Chosen) → 0 ≡ g → record { widths = after; weighed = w } ≡ q
           → _≡_ {A = Left} (record { answer = Weighed w; widths = after ++ drop (length lengths) W }) (leftUnless g (length lengths) q W)
@@ -200,17 +201,17 @@ module _ (chains : List Float) (lengths : List ℕ) (curve : List Float) (gamma 
 
       module _ (depth w : ℕ) (after : List ℕ) (x : Entered depth) where
         pub ragged-weighed :
-            record { widths = after; weighed = w } ≡ raggedGate (verifyCost (take (gamma + 1) curve) (length lengths)) chains lengths depth kind rates loaded
-            → _≡_ {A = Left} (record { answer = Weighed w; widths = after ++ drop (length lengths) W }) (raggedAnswer chains lengths curve gamma kind rates loaded W)
+            record { widths = after; weighed = w } ≡ raggedGate (ruleOf mode (take (gamma + 1) curve) (length lengths)) chains lengths depth kind rates loaded
+            → _≡_ {A = Left} (record { answer = Weighed w; widths = after ++ drop (length lengths) W }) (raggedAnswer chains lengths curve gamma kind rates loaded mode W)
         unfolding raggedAnswer raggedChosen
         ragged-weighed p =
-            weighed _ w after (raggedChosen chains lengths curve gamma kind rates loaded) (sym (x .none) ∙ late h)
-            (p ∙ ap (λ (d : ℕ). raggedGate (verifyCost (take (gamma + 1) curve) (length lengths)) chains lengths d kind rates loaded) (x .best))
+            weighed _ w after (raggedChosen chains lengths curve gamma kind rates loaded mode) (sym (x .none) ∙ late h)
+            (p ∙ ap (λ (d : ℕ). raggedGate (ruleOf mode (take (gamma + 1) curve) (length lengths)) chains lengths d kind rates loaded) (x .best))
 
         pub block-weighed :
-            record { widths = after; weighed = w } ≡ blockGate (verifyCost (take (gamma + 1) curve) (length lengths)) chains lengths (take (gamma + 1) curve) depth kind rates loaded
-            → _≡_ {A = Left} (record { answer = Weighed w; widths = after ++ drop (length lengths) W }) (blockAnswer chains lengths curve gamma kind rates loaded W)
+            record { widths = after; weighed = w } ≡ blockGate (ruleOf mode (take (gamma + 1) curve) (length lengths)) chains lengths (take (gamma + 1) curve) depth kind rates loaded
+            → _≡_ {A = Left} (record { answer = Weighed w; widths = after ++ drop (length lengths) W }) (blockAnswer chains lengths curve gamma kind rates loaded mode W)
         unfolding blockAnswer blockChosen
         block-weighed p =
-            weighed _ w after (blockChosen chains lengths curve gamma kind rates loaded) (sym (x .none) ∙ late h)
-            (p ∙ ap (λ (d : ℕ). blockGate (verifyCost (take (gamma + 1) curve) (length lengths)) chains lengths (take (gamma + 1) curve) d kind rates loaded) (x .best))
+            weighed _ w after (blockChosen chains lengths curve gamma kind rates loaded mode) (sym (x .none) ∙ late h)
+            (p ∙ ap (λ (d : ℕ). blockGate (ruleOf mode (take (gamma + 1) curve) (length lengths)) chains lengths (take (gamma + 1) curve) d kind rates loaded) (x .best))

@@ -12,7 +12,8 @@ use Rattle.goodput_judges.specs.Refusals.{sizesRefusal}
 use Rattle.chains.specs.Expected.{expectedOver}
 use Rattle.goodput.specs.Depth.{bestPriced}
 use Rattle.goodput_judges.specs.Refusals.{aggregateRefusal}
-use Rattle.verify_prices.specs.Price.{verifyCost}
+use Rattle.verify_prices.specs.Rule.{ruleOf}
+use Rattle.verify_prices.specs.declared.PriceMode.{PriceMode}
 use Rattle.slots.specs.Gate.{Chosen}
 use Rattle.block.specs.Block.{blockGate}
 use Rattle.trim.specs.Ragged.{raggedGate}
@@ -46,17 +47,17 @@ module _ (chains : List Float) (lengths : List ℕ) (curve : List Float) (gamma 
   unfoldable pub gateRefusal : ℕ → ℕ
   gateRefusal room = firstOf (roomRefusal kind gamma (length lengths) room) (aggregateRefusal chains lengths curve gamma kind rates loaded)
 
-  unfoldable pub raggedChosen : Chosen
-  raggedChosen = raggedGate (verifyCost prices (length lengths)) chains lengths depthOf kind rates loaded
+  unfoldable pub raggedChosen : PriceMode → Chosen
+  raggedChosen mode = raggedGate (ruleOf mode prices (length lengths)) chains lengths depthOf kind rates loaded
 
-  unfoldable pub blockChosen : Chosen
-  blockChosen = blockGate (verifyCost prices (length lengths)) chains lengths prices depthOf kind rates loaded
+  unfoldable pub blockChosen : PriceMode → Chosen
+  blockChosen mode = blockGate (ruleOf mode prices (length lengths)) chains lengths prices depthOf kind rates loaded
 
-  unfoldable pub raggedAnswer : List ℕ → Left
-  raggedAnswer W = leftUnless (gateRefusal (length W)) (length lengths) raggedChosen W
+  unfoldable pub raggedAnswer : PriceMode → List ℕ → Left
+  raggedAnswer mode W = leftUnless (gateRefusal (length W)) (length lengths) (raggedChosen mode) W
 
-  unfoldable pub blockAnswer : List ℕ → Left
-  blockAnswer W = leftUnless (gateRefusal (length W)) (length lengths) blockChosen W
+  unfoldable pub blockAnswer : PriceMode → List ℕ → Left
+  blockAnswer mode W = leftUnless (gateRefusal (length W)) (length lengths) (blockChosen mode) W
 
 -- the refusal number of each answer, 0 where slots were weighed, and how many were
 abbrev pub gatedNumber : Gated → ℕ

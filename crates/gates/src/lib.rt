@@ -5,6 +5,7 @@ use goodput::depth::aggregate_depth;
 use speculative::drafter::DrafterCost;
 use speculative::drafter::Rates;
 use speculative::drafter::drafter_refusal;
+use verify_prices::PriceMode;
 ghost use mathlib.Core.Path.{_≡_};
 ghost use Rattle.gates.specs.Entry.{roomRefusal, raggedAnswer, blockAnswer};
 
@@ -28,12 +29,13 @@ pub fn gated_ragged_draft(
     lengths: &[u32],
     curve: &[f64],
     gamma: u32,
+    mode: PriceMode,
     drafter: DrafterCost,
     rates: Rates,
     loaded: &[f64],
     widths: &mut [u32],
 ) -> Gated
-    ensures { λ r. ⌜ record { answer = r; widths = now (widths .exit) } ≡ raggedAnswer (now (chains .entry)) (now (lengths .entry)) (now (curve .entry)) gamma drafter rates (now (loaded .entry)) (now (widths .entry)) ⌝ }
+    ensures { λ r. ⌜ record { answer = r; widths = now (widths .exit) } ≡ raggedAnswer (now (chains .entry)) (now (lengths .entry)) (now (curve .entry)) gamma drafter rates (now (loaded .entry)) mode (now (widths .entry)) ⌝ }
 {
     let refusal = room_refusal(drafter, gamma, lengths.len(), widths.len());
     if 0 < refusal {
@@ -47,6 +49,7 @@ pub fn gated_ragged_draft(
             Gated::Weighed(ragged::inner::gated_ragged_draft(
                 chains,
                 lengths,
+                mode,
                 &curve[..count],
                 depth,
                 drafter,
@@ -65,12 +68,13 @@ pub fn gated_block_verify(
     lengths: &[u32],
     curve: &[f64],
     gamma: u32,
+    mode: PriceMode,
     drafter: DrafterCost,
     rates: Rates,
     loaded: &[f64],
     widths: &mut [u32],
 ) -> Gated
-    ensures { λ r. ⌜ record { answer = r; widths = now (widths .exit) } ≡ blockAnswer (now (chains .entry)) (now (lengths .entry)) (now (curve .entry)) gamma drafter rates (now (loaded .entry)) (now (widths .entry)) ⌝ }
+    ensures { λ r. ⌜ record { answer = r; widths = now (widths .exit) } ≡ blockAnswer (now (chains .entry)) (now (lengths .entry)) (now (curve .entry)) gamma drafter rates (now (loaded .entry)) mode (now (widths .entry)) ⌝ }
 {
     let refusal = room_refusal(drafter, gamma, lengths.len(), widths.len());
     if 0 < refusal {
@@ -84,6 +88,7 @@ pub fn gated_block_verify(
             Gated::Weighed(block::inner::gated_block_verify(
                 chains,
                 lengths,
+                mode,
                 &curve[..count],
                 depth,
                 drafter,

@@ -8,7 +8,8 @@ use lib.ListN.{length}
 use lib.Ieee.{Float}
 use Rattle.speculative.specs.declared.drafter.Rates.{Rates}
 use Rattle.speculative.specs.declared.drafter.DrafterCost.{DrafterCost}
-use Rattle.verify_prices.specs.Price.{verifyCost}
+use Rattle.verify_prices.specs.Rule.{ruleOf}
+use Rattle.verify_prices.specs.declared.PriceMode.{PriceMode}
 use Rattle.slots.specs.Slots.{starts, sum}
 use Rattle.slots.specs.Gate.{Chosen}
 use Rattle.gates.specs.Entry.{leftUnless, prices, depthOf, gateRefusal, raggedChosen, blockChosen, raggedAnswer, blockAnswer, gatedNumber, weighedBy}
@@ -23,26 +24,26 @@ bounded : (refusal n b : ℕ) (g : Chosen) (W : List ℕ) → g .weighed ≤ b �
 bounded zero n b g W h = h
 bounded (suc refusal) n b g W h = omega arith
 
-module _ (chains : List Float) (lengths : List ℕ) (curve : List Float) (gamma : ℕ) (kind : DrafterCost) (rates : Rates) (loaded : List Float) (W : List ℕ) where
+module _ (chains : List Float) (lengths : List ℕ) (curve : List Float) (gamma : ℕ) (kind : DrafterCost) (rates : Rates) (loaded : List Float) (mode : PriceMode) (W : List ℕ) where
   abbrev slots : ℕ
   slots = sum (starts (depthOf chains lengths curve gamma kind rates loaded) lengths)
 
-  pub ragged-refused : (gatedNumber (raggedAnswer chains lengths curve gamma kind rates loaded W .answer) ≡ 0 → ⊥) → raggedAnswer chains lengths curve gamma kind rates loaded W .widths ≡ W
+  pub ragged-refused : (gatedNumber (raggedAnswer chains lengths curve gamma kind rates loaded mode W .answer) ≡ 0 → ⊥) → raggedAnswer chains lengths curve gamma kind rates loaded mode W .widths ≡ W
   unfolding raggedAnswer
-  ragged-refused = unwritten (gateRefusal chains lengths curve gamma kind rates loaded (length W)) (length lengths) (raggedChosen chains lengths curve gamma kind rates loaded) W
+  ragged-refused = unwritten (gateRefusal chains lengths curve gamma kind rates loaded (length W)) (length lengths) (raggedChosen chains lengths curve gamma kind rates loaded mode) W
 
-  pub block-refused : (gatedNumber (blockAnswer chains lengths curve gamma kind rates loaded W .answer) ≡ 0 → ⊥) → blockAnswer chains lengths curve gamma kind rates loaded W .widths ≡ W
+  pub block-refused : (gatedNumber (blockAnswer chains lengths curve gamma kind rates loaded mode W .answer) ≡ 0 → ⊥) → blockAnswer chains lengths curve gamma kind rates loaded mode W .widths ≡ W
   unfolding blockAnswer
-  block-refused = unwritten (gateRefusal chains lengths curve gamma kind rates loaded (length W)) (length lengths) (blockChosen chains lengths curve gamma kind rates loaded) W
+  block-refused = unwritten (gateRefusal chains lengths curve gamma kind rates loaded (length W)) (length lengths) (blockChosen chains lengths curve gamma kind rates loaded mode) W
 
-  pub ragged-slots : weighedBy (raggedAnswer chains lengths curve gamma kind rates loaded W .answer) ≤ slots
+  pub ragged-slots : weighedBy (raggedAnswer chains lengths curve gamma kind rates loaded mode W .answer) ≤ slots
   unfolding raggedAnswer raggedChosen
   ragged-slots =
-      bounded (gateRefusal chains lengths curve gamma kind rates loaded (length W)) (length lengths) slots (raggedChosen chains lengths curve gamma kind rates loaded) W
-      (ragged-weighed (verifyCost (prices chains lengths curve gamma kind rates loaded) (length lengths)) chains lengths (depthOf chains lengths curve gamma kind rates loaded) kind rates loaded)
+      bounded (gateRefusal chains lengths curve gamma kind rates loaded (length W)) (length lengths) slots (raggedChosen chains lengths curve gamma kind rates loaded mode) W
+      (ragged-weighed (ruleOf mode (prices chains lengths curve gamma kind rates loaded) (length lengths)) chains lengths (depthOf chains lengths curve gamma kind rates loaded) kind rates loaded)
 
-  pub block-slots : weighedBy (blockAnswer chains lengths curve gamma kind rates loaded W .answer) ≤ slots
+  pub block-slots : weighedBy (blockAnswer chains lengths curve gamma kind rates loaded mode W .answer) ≤ slots
   unfolding blockAnswer blockChosen
   block-slots =
-      bounded (gateRefusal chains lengths curve gamma kind rates loaded (length W)) (length lengths) slots (blockChosen chains lengths curve gamma kind rates loaded) W
-      (block-weighed (verifyCost (prices chains lengths curve gamma kind rates loaded) (length lengths)) chains lengths (prices chains lengths curve gamma kind rates loaded) (depthOf chains lengths curve gamma kind rates loaded) kind rates loaded)
+      bounded (gateRefusal chains lengths curve gamma kind rates loaded (length W)) (length lengths) slots (blockChosen chains lengths curve gamma kind rates loaded mode) W
+      (block-weighed (ruleOf mode (prices chains lengths curve gamma kind rates loaded) (length lengths)) chains lengths (prices chains lengths curve gamma kind rates loaded) (depthOf chains lengths curve gamma kind rates loaded) kind rates loaded)

@@ -2,15 +2,15 @@
 use mathlib.Core.Path.{_≡_, refl, sym, ap, _∙_, subst}
 use mathlib.Core.Bool.{Bool, true, false, _&&_, _||_, Bool·beq, cond}
 use Prim.Native.Nat.{ℕ, zero, suc, _+_, _-_, _*_, _/_, _^_, _≤_, _<_}
-use native.Mathlib.Nat.{mul-one, mul-pos, mul-comm, mul-assoc, mul-right-comm, mul-mul-mul-comm, add-mul, mul-le-mul, mul-le-mul-right, le-of-mul-le-mul-right, le-trans, le-of-eq, zero-lt-suc}
+use native.Mathlib.Nat.{mul-one, mul-pos, mul-comm, mul-assoc, mul-right-comm, add-mul, mul-le-mul-right, le-of-mul-le-mul-right, le-trans, le-of-eq, zero-lt-suc}
 use native.Mathlib.Omega.{arith}
 use lib.Dec.{T, ltb, eqb, ltb→lt, eqb→eq}
-use lib.Ieee.{Float, nan, inf, fin, Format, binary64, prec, emax, low, up, down, size, odd, units, round, neg, sum, add, sub, mul, lt, eq, le, ofInt, unlike}
+use lib.Ieee.{Float, nan, inf, fin, Format, binary64, prec, emax, low, up, down, size, odd, units, round, neg, sum, add, sub, lt, eq, le, ofInt}
 use lib.Ieee.Fits.{down-pos, round-is}
 use lib.Ieee.Nearest.{closest}
 use lib.Ieee.Exact.{HasValue}
 use lib.Ieee.Order.{round-mono}
-use Rattle.float.specs.Floats.{isFinite, plus, less, times, whole}
+use Rattle.float.specs.Floats.{isFinite, plus, less, whole}
 use Rattle.numeral.proofs.Rounding.{round-neg, whole-held}
 
 -- finite, and no larger than A
@@ -37,7 +37,7 @@ sized-neg A (inf s) h = h
 sized-neg A (fin s m e) h = h
 
 -- ---- what is rounded
-abbrev signOf : Float → Bool
+abbrev pub signOf : Float → Bool
 signOf nan = false
 signOf (inf s) = s
 signOf (fin s m e) = s
@@ -55,7 +55,7 @@ units-positive f q k = go (ltb (q * 2 ^ k) (2 ^ (low f + suc (emax f))))
     go true = odd-positive (suc (prec f)) q k (low f)
     go false = refl
 
-round-positive : (f : Format) (a b : ℕ) → signOf (round f false a b) ≡ false
+pub round-positive : (f : Format) (a b : ℕ) → signOf (round f false a b) ≡ false
 round-positive f a b =
     let n = a * 2 ^ low f in
     let k = size (n / b) - prec f in
@@ -64,7 +64,7 @@ round-positive f a b =
 true-false : {A : Type 0} → true ≡ false → A
 true-false e = let z : _≡_ {A = ℕ} 0 1 = cc in absurd (let w : ⊥ = omega arith in w)
 
-or-le : (a b : ℕ) (c : Bool) → T (ltb a b || (eqb a b && c)) → a ≤ b
+pub or-le : (a b : ℕ) (c : Bool) → T (ltb a b || (eqb a b && c)) → a ≤ b
 or-le a b c t = go (ltb a b) (eqb a b) (ltb→lt a b) (eqb→eq a b) t
   where
     go : (x y : Bool) → (T x → a < b) → (T y → a ≡ b) → T (x || (y && c)) → a ≤ b
@@ -73,7 +73,7 @@ or-le a b c t = go (ltb a b) (eqb a b) (ltb→lt a b) (eqb→eq a b) t
     go false false p q u = absurd u
 
 -- what is no larger than a float that holds A is no larger than A
-under : (x y : Float) (A : ℕ) → signOf x ≡ false → HasValue y false A 1 → T (le x y) → Sized A x
+pub under : (x y : Float) (A : ℕ) → signOf x ≡ false → HasValue y false A 1 → T (le x y) → Sized A x
 unfolding le lt eq
 under nan y A s v t = absurd t
 under (inf true) y A s v t = true-false s
@@ -136,14 +136,3 @@ sized-plus A B (fin s m e) (fin t n d) h p q =
 pub sized-less : (A B : ℕ) (x y : Float) → Held (A + B) → Sized A x → Sized B y → Sized (A + B) (less x y)
 unfolding sub
 sized-less A B x y h p q = sized-plus A B x (neg y) h p (sized-neg B y q)
-
--- ---- products
-pub sized-times : (A B : ℕ) (x y : Float) → Held (A * B) → Sized A x → Sized B y → Sized (A * B) (times x y)
-unfolding mul
-sized-times A B nan y h p q = absurd p
-sized-times A B (inf s) y h p q = absurd p
-sized-times A B (fin s m e) nan h p q = absurd q
-sized-times A B (fin s m e) (inf t) h p q = absurd q
-sized-times A B (fin s m e) (fin t n d) h p q =
-    round-sized (A * B) (unlike s t) (m * up e * (n * up d)) (down e * down d) h (mul-pos (down-pos e) (down-pos d))
-    (le-trans (mul-le-mul p q) (le-of-eq (mul-mul-mul-comm A (down e) B (down d))))

@@ -20,6 +20,7 @@ use Rattle.speculative.specs.declared.drafter.DrafterCost.the-variants.{Fractio
 use Rattle.chains.specs.Tests.{allOf, isSurvival}
 use Rattle.chains.specs.Expected.{areChains}
 use Rattle.depth_laws.proofs.Clear.{noSign, clear-no-sign, whole-clear, add-no-sign, mul-no-sign, div-no-sign, max-no-sign}
+use Rattle.verify_prices.specs.Rule.{Rule}
 use Rattle.heap.specs.Greedy.{Verdict, run, greedy}
 use Rattle.slots.specs.Slots.{starts, downFrom, stacks}
 use Rattle.slots.specs.Gate.{State, chosenBy}
@@ -140,25 +141,25 @@ full-none : (pass : ℕ → Float) (chains : List Float) (d : ℕ) → fullDraft
 unfolding fullDraft
 full-none pass chains d = refl
 
-module _ (price : Float → Float) (chains : List Float) (kind : DrafterCost) (rates : Rates) (loaded : List Float) (drafter : isDrafter kind ≡ true) (streamed : isStreamed rates ≡ true) where
+module _ (rule : Rule) (chains : List Float) (kind : DrafterCost) (rates : Rates) (loaded : List Float) (drafter : isDrafter kind ≡ true) (streamed : isStreamed rates ≡ true) where
   none-alike :
-      (d : ℕ) → let pass = passOf kind rates loaded in chosenBy (greedy (dropSlot pass price chains) (draftOver minusZero pass chains (suc d) []) (stacks downFrom [] chains)) ≡ chosenBy (greedy (dropSlot pass price chains) (fullDraft pass chains (suc d) []) (stacks downFrom [] chains))
+      (d : ℕ) → let pass = passOf kind rates loaded in chosenBy (greedy (dropSlot pass rule chains) (draftOver minusZero pass chains (suc d) []) (stacks downFrom [] chains)) ≡ chosenBy (greedy (dropSlot pass rule chains) (fullDraft pass chains (suc d) []) (stacks downFrom [] chains))
   unfolding stacks
   none-alike d =
       let pass = passOf kind rates loaded in
-      no-sequence (dropSlot pass price chains) (draftOver minusZero pass chains (suc d) []) (over-none pass chains d)
-      ∙ sym (no-sequence (dropSlot pass price chains) (fullDraft pass chains (suc d) []) (full-none pass chains d))
+      no-sequence (dropSlot pass rule chains) (draftOver minusZero pass chains (suc d) []) (over-none pass chains d)
+      ∙ sym (no-sequence (dropSlot pass rule chains) (fullDraft pass chains (suc d) []) (full-none pass chains d))
 
   -- whether its sums start from zero or, as the Rust's, from minus zero, shows nowhere in the gate
   pub starts-alike :
       (gamma depth : ℕ) (lengths : List ℕ) → depth ≤ gamma → areChains gamma lengths chains ≡ true
       → ((m : ℕ) → m ≤ length lengths → isClear (loadedAt kind loaded m) ≡ true)
-      → raggedOver minusZero price chains lengths depth kind rates loaded ≡ raggedGate price chains lengths depth kind rates loaded
+      → raggedOver minusZero rule chains lengths depth kind rates loaded ≡ raggedGate rule chains lengths depth kind rates loaded
   unfolding raggedOver raggedGate raggedWidths
   starts-alike gamma zero lengths l h c = refl
   starts-alike gamma (suc d) [] l h c = ap (cond (eqb (suc d) 0) (record { widths = []; weighed = 0 })) (none-alike d)
   starts-alike gamma (suc d) (n ∷ lengths) l h c =
       let pass = passOf kind rates loaded in
       let plain : (m : ℕ) → m ≤ length (n ∷ lengths) → N (pass m) = λ m k. pass-plain rates streamed kind m (loadedAt kind loaded m) drafter (clear-no-sign (loadedAt kind loaded m) (c m k)) in
-      ap (λ (a : State). cond (eqb (suc d) 0) (record { widths = replicate (length (n ∷ lengths)) 0; weighed = 0 }) (chosenBy (greedy (dropSlot pass price chains) a (stacks downFrom (starts (suc d) (n ∷ lengths)) chains))))
+      ap (λ (a : State). cond (eqb (suc d) 0) (record { widths = replicate (length (n ∷ lengths)) 0; weighed = 0 }) (chosenBy (greedy (dropSlot pass rule chains) a (stacks downFrom (starts (suc d) (n ∷ lengths)) chains))))
       (draft-same pass chains gamma d l n lengths plain h)

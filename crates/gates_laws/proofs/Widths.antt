@@ -9,7 +9,7 @@ use native.Mathlib.Omega.{arith}
 use lib.Dec.{eqb}
 use lib.ListN.{getD, set, length, drop, length-set, replicate, length-replicate, getD-replicate, List·getD-map}
 use lib.Seq.{getD-set-same, getD-set-other}
-use lib.Ieee.{Float}
+use lib.Ieee.{Float, nan}
 use Rattle.laws.proofs.Choices.{either}
 use Rattle.speculative.specs.Drafter.{stillDrafting}
 use Rattle.speculative.specs.declared.drafter.Rates.{Rates}
@@ -19,7 +19,8 @@ use Rattle.heap.specs.Greedy as greedily
 use Rattle.heap.specs.Greedy.{Stacks, headOf, tailOf, frontier, total, Outcome, afterwards, upon, run, greedy}
 use Rattle.heap.proofs.Next.{next-first}
 use Rattle.heap.proofs.Steps.{on-head, greedy-bounded}
-use Rattle.verdict.specs.Decision.{Sums, Decision, passed, stopped, taken, slotAt, removalAt}
+use Rattle.verify_prices.specs.Rule.{Rule}
+use Rattle.verdict.specs.Decision.{Sums, Decision, passed, stopped, taken, slotAt, removalUnder}
 use Rattle.slots.specs.Slots.{starts, sum, upTo, downFrom, stacks, survival}
 use Rattle.slots.specs.Gate.{State, judged, Chosen}
 use Rattle.block.specs.Block.{addSlot, blockFrom, blockWidths, blockGate}
@@ -89,7 +90,7 @@ shared-leaves caps ws s j p = record { long = p .long; stacked = simp length-set
         omega (arith, p .each k l, ap length z)
     pick k l (no n) = rw (getD-set-other s j k [] [] n) (p .each k l)
 
-shared-takes :
+pub shared-takes :
     (caps ws : List ℕ) (s : Stacks) (j r : ℕ) → next (frontier s) ≡ chosen j r → Shared caps ws s
     → Shared caps (set ws j (getD ws j 0 + 1)) (set s j (tailOf (getD s j [])))
 shared-takes caps ws s j r e p = record { long = simp length-set (p .long); stacked = simp length-set (p .stacked); each = λ k l. pick k l (ℕ-discrete k j) }
@@ -104,7 +105,7 @@ shared-takes caps ws s j r e p = record { long = simp length-set (p .long); stac
         (omega (arith, p .each j l′, ap length (on-head (getD s j []) r own)))
     pick k l (no n) = rw (getD-set-other ws j k (getD ws j 0 + 1) 0 n, getD-set-other s j k (tailOf (getD s j [])) [] n) (p .each k l)
 
-shared-starts : (caps : List ℕ) (c : List Float) → Shared caps (replicate (length caps) 0) (stacks upTo caps c)
+pub shared-starts : (caps : List ℕ) (c : List Float) → Shared caps (replicate (length caps) 0) (stacks upTo caps c)
 shared-starts caps c = record {
   long = length-replicate {A = ℕ} (length caps) 0;
   stacked = stacks-length upTo caps c;
@@ -125,15 +126,18 @@ module _ (price : Float → Float) (chains : List Float) where
       omega
       (arith, greedy-bounded (addSlot price chains) (record { sums = sums; widths = replicate (length lengths) 0 }) (stacks upTo (starts depth lengths) chains), stacks-total upTo (starts depth lengths) chains up-short)
 
-  module _ (lengths : List ℕ) (curve : List Float) (depth : ℕ) (kind : DrafterCost) (rates : Rates) (loaded : List Float) where
-    pub block-weighed : blockGate price chains lengths curve depth kind rates loaded .weighed ≤ sum (starts depth lengths)
-    unfolding blockGate blockWidths
-    block-weighed = either {A = Chosen} (eqb depth 0) (λ g. g .weighed ≤ sum (starts depth lengths)) _ _ (omega arith) (from-few depth _ lengths)
+module _ (rule : Rule) (chains : List Float) (lengths : List ℕ) (curve : List Float) (depth : ℕ) (kind : DrafterCost) (rates : Rates) (loaded : List Float) where
+  pub block-weighed : blockGate rule chains lengths curve depth kind rates loaded .weighed ≤ sum (starts depth lengths)
+  unfolding blockGate blockWidths
+  block-weighed =
+      either {A = Chosen} (eqb depth 0) (λ g. g .weighed ≤ sum (starts depth lengths)) _ _ (omega arith)
+      (either {A = Chosen} (rule .shut (getD curve 0 nan)) (λ g. g .weighed ≤ sum (starts depth lengths)) _ _ (omega arith) (from-few (rule .price) chains depth _ lengths))
 
-    pub block-widths : Under (starts depth lengths) (blockGate price chains lengths curve depth kind rates loaded .widths)
-    unfolding blockGate blockWidths
-    block-widths =
-        either {A = Chosen} (eqb depth 0) (λ g. Under (starts depth lengths) (g .widths)) _ _ (under-zeros (starts depth lengths) (length lengths) (starts-length depth lengths)) (from-under depth _ lengths)
+  pub block-widths : Under (starts depth lengths) (blockGate rule chains lengths curve depth kind rates loaded .widths)
+  unfolding blockGate blockWidths
+  block-widths =
+      either {A = Chosen} (eqb depth 0) (λ g. Under (starts depth lengths) (g .widths)) _ _ (under-zeros (starts depth lengths) (length lengths) (starts-length depth lengths))
+      (either {A = Chosen} (rule .shut (getD curve 0 nan)) (λ g. Under (starts depth lengths) (g .widths)) _ _ (λ k l. omega arith) (from-under (rule .price) chains depth _ lengths))
 
 -- ---- the ragged gate: widths only fall
 module _ (caps : List ℕ) where
@@ -149,27 +153,27 @@ module _ (caps : List ℕ) where
           rw (q, getD-set-same ws j (getD ws j 0 - 1) 0 (omega (arith, p .0))) (omega (arith, p .1 j l′))
       pick k l (no n) = rw (getD-set-other ws j k (getD ws j 0 - 1) 0 n) (p .1 k l)
 
-module _ (pass : ℕ → Float) (price : Float → Float) (chains : List Float) where
-  trimmed-under : (depth : ℕ) (ws : List ℕ) → Under ws (raggedWidths pass price chains depth ws .widths)
+module _ (pass : ℕ → Float) (rule : Rule) (chains : List Float) where
+  trimmed-under : (depth : ℕ) (ws : List ℕ) → Under ws (raggedWidths pass rule chains depth ws .widths)
   unfolding raggedWidths dropSlot fullDraft
   trimmed-under depth ws =
       greedy-keeps
-      (λ a k r. removalAt price (a .sums) (survival chains k (getD (a .widths) k 0 - 1)) (marginOf pass (stillDrafting (a .widths) (getD (a .widths) k 0))))
+      (λ a k r. removalUnder rule (a .sums) (survival chains k (getD (a .widths) k 0 - 1)) (marginOf pass (stillDrafting (a .widths) (getD (a .widths) k 0))))
       (λ w. w - 1) (Fallen ws) (Under ws) (λ v s p. p .1) (fallen-takes ws) (λ v s k p. p) (fullDraft pass chains depth ws) (stacks downFrom ws chains)
       (refl, λ k l. omega arith)
 
-  trimmed-few : (depth : ℕ) (ws : List ℕ) → raggedWidths pass price chains depth ws .weighed ≤ sum ws
+  trimmed-few : (depth : ℕ) (ws : List ℕ) → raggedWidths pass rule chains depth ws .weighed ≤ sum ws
   unfolding raggedWidths
   trimmed-few depth ws =
-      omega (arith, greedy-bounded (dropSlot pass price chains) (fullDraft pass chains depth ws) (stacks downFrom ws chains), stacks-total downFrom ws chains down-short)
+      omega (arith, greedy-bounded (dropSlot pass rule chains) (fullDraft pass chains depth ws) (stacks downFrom ws chains), stacks-total downFrom ws chains down-short)
 
-module _ (price : Float → Float) (chains : List Float) (lengths : List ℕ) (depth : ℕ) (kind : DrafterCost) (rates : Rates) (loaded : List Float) where
-  pub ragged-weighed : raggedGate price chains lengths depth kind rates loaded .weighed ≤ sum (starts depth lengths)
+module _ (rule : Rule) (chains : List Float) (lengths : List ℕ) (depth : ℕ) (kind : DrafterCost) (rates : Rates) (loaded : List Float) where
+  pub ragged-weighed : raggedGate rule chains lengths depth kind rates loaded .weighed ≤ sum (starts depth lengths)
   unfolding raggedGate
-  ragged-weighed = either {A = Chosen} (eqb depth 0) (λ g. g .weighed ≤ sum (starts depth lengths)) _ _ (omega arith) (trimmed-few (passOf kind rates loaded) price chains depth (starts depth lengths))
+  ragged-weighed = either {A = Chosen} (eqb depth 0) (λ g. g .weighed ≤ sum (starts depth lengths)) _ _ (omega arith) (trimmed-few (passOf kind rates loaded) rule chains depth (starts depth lengths))
 
-  pub ragged-widths : Under (starts depth lengths) (raggedGate price chains lengths depth kind rates loaded .widths)
+  pub ragged-widths : Under (starts depth lengths) (raggedGate rule chains lengths depth kind rates loaded .widths)
   unfolding raggedGate
   ragged-widths =
       either {A = Chosen} (eqb depth 0) (λ g. Under (starts depth lengths) (g .widths)) _ _ (under-zeros (starts depth lengths) (length lengths) (starts-length depth lengths))
-      (trimmed-under (passOf kind rates loaded) price chains depth (starts depth lengths))
+      (trimmed-under (passOf kind rates loaded) rule chains depth (starts depth lengths))

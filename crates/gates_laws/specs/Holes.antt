@@ -1,11 +1,12 @@
 -- Where the verify price of t tokens over n sequences lies on a curve, and what it can be: finite, infinite, or no number. Assumes nothing.
 use Prim.Native.Nat.{ℕ, _+_, _-_}
-use mathlib.Core.Bool.{Bool, true, false, not}
+use mathlib.Core.Bool.{Bool, true, false, not, _&&_}
 use mathlib.Core.List.{List}
 use lib.ListN.{length, getD}
 use lib.Ieee.{Float, nan, inf, fin, lt}
 use Rattle.float.specs.Floats.{less, whole, f0, isFinite}
 use Rattle.verify_prices.specs.Price.{meanWidth, segment}
+use Rattle.verify_prices.specs.Bridge.{isMeasured, lower, upper, footOf, ceilingOf}
 
 pub data Class : Type 0 where
   finite infinite noNumber : Class
@@ -42,3 +43,11 @@ classAt false true above = infinite
 classAt true false false = finite
 classAt true false true = infinite
 classAt true true above = noNumber
+
+-- the mean width lies inside the measured depths: one of them is at or below it, and one at or above it
+abbrev pub isInside : List Float → ℕ → Float → Bool
+isInside curve n t =
+    let gamma = length curve - 1 in
+    let w = meanWidth gamma n t in
+    let s = footOf gamma w in
+    isMeasured curve (lower curve s) && isMeasured curve (upper curve (ceilingOf gamma w s))

@@ -10,6 +10,7 @@ use Rattle.float.specs.Floats.{plus, whole}
 use Rattle.speculative.specs.Drafter.{stillDrafting}
 use Rattle.speculative.specs.declared.drafter.Rates.{Rates}
 use Rattle.speculative.specs.declared.drafter.DrafterCost.{DrafterCost}
+use Rattle.verify_prices.specs.Rule.{Rule}
 use Rattle.heap.specs.Greedy.{greedy}
 use Rattle.slots.specs.Slots.{starts, downFrom, stacks}
 use Rattle.slots.specs.Gate.{State, Chosen, chosenBy}
@@ -39,9 +40,9 @@ module _ (z : Float) where
       widths = ws;
     }
 
-  unfoldable pub raggedOver : (Float → Float) → List Float → List ℕ → ℕ → DrafterCost → Rates → List Float → Chosen
-  raggedOver price chains lengths depth kind rates loaded =
+  unfoldable pub raggedOver : Rule → List Float → List ℕ → ℕ → DrafterCost → Rates → List Float → Chosen
+  raggedOver rule chains lengths depth kind rates loaded =
       let pass = passOf kind rates loaded in
       let ws = starts depth lengths in
       cond (eqb depth 0) (record { widths = replicate (length lengths) 0; weighed = 0 })
-      (chosenBy (greedy (dropSlot pass price chains) (draftOver pass chains depth ws) (stacks downFrom ws chains)))
+      (chosenBy (greedy (dropSlot pass rule chains) (draftOver pass chains depth ws) (stacks downFrom ws chains)))

@@ -16,7 +16,8 @@ use Rattle.speculative.specs.declared.drafter.Rates.{Rates}
 use Rattle.speculative.specs.declared.drafter.DrafterCost.{DrafterCost}
 use Rattle.chains.specs.Expected.{AtMost, expectedOver, Fits as Chained}
 use Rattle.depths.specs.Pricing.{depthOver, gateDepth}
-use Rattle.verify_prices.specs.Price.{verifyCost}
+use Rattle.verify_prices.specs.Rule.{ruleOf}
+use Rattle.verify_prices.specs.declared.PriceMode.{PriceMode}
 use Rattle.slots.specs.Slots.{Fits}
 use Rattle.slots.specs.Gate.{Chosen}
 use Rattle.block.specs.Block.{blockGate}
@@ -76,7 +77,7 @@ module _ (lengths : List ℕ) (n gamma : ℕ) (L : lengths ≡ replicate n gamma
   fitting chains r f h = record { room = omega (arith, r, many); count = refl; few = omega (arith, f, many); narrow = narrow h }
 
   -- what the calls gave
-  module _ (kind : DrafterCost) (rates : Rates) (loaded curve chains : List Float) (C : length curve ≡ gamma + 1) where
+  module _ (mode : PriceMode) (kind : DrafterCost) (rates : Rates) (loaded curve chains : List Float) (C : length curve ≡ gamma + 1) where
     depth-is : gateDepth kind rates (loadedAt kind loaded (length lengths)) lengths chains curve ≡ depthOver kind n rates (loadedAt kind loaded n) (chainsExpected n gamma chains) curve
     unfolding gateDepth
     depth-is =
@@ -86,29 +87,29 @@ module _ (lengths : List ℕ) (n gamma : ℕ) (L : lengths ≡ replicate n gamma
         ∙ ap (λ (m : ℕ). depthOver kind n rates (loadedAt kind loaded n) (take m (expectedOver (m - 1) (replicate n gamma) chains)) curve) C
         ∙ ap (λ (m : ℕ). depthOver kind n rates (loadedAt kind loaded n) (take (gamma + 1) (expectedOver m (replicate n gamma) chains)) curve) g
 
-    gate-is : (depth : ℕ) → gateOf kind rates loaded curve lengths chains depth ≡ gateAt kind rates loaded curve n gamma chains depth
+    gate-is : (depth : ℕ) → gateOf mode kind rates loaded curve lengths chains depth ≡ gateAt mode kind rates loaded curve n gamma chains depth
     gate-is depth =
-        ap (λ (m : ℕ). cond (isBlock kind) (blockGate (verifyCost curve m) chains lengths curve depth kind rates loaded) (raggedGate (verifyCost curve m) chains lengths depth kind rates loaded)) many
-        ∙ ap (λ (ls : List ℕ). cond (isBlock kind) (blockGate (verifyCost curve n) chains ls curve depth kind rates loaded) (raggedGate (verifyCost curve n) chains ls depth kind rates loaded)) L
+        ap (λ (m : ℕ). cond (isBlock kind) (blockGate (ruleOf mode curve m) chains lengths curve depth kind rates loaded) (raggedGate (ruleOf mode curve m) chains lengths depth kind rates loaded)) many
+        ∙ ap (λ (ls : List ℕ). cond (isBlock kind) (blockGate (ruleOf mode curve n) chains ls curve depth kind rates loaded) (raggedGate (ruleOf mode curve n) chains ls depth kind rates loaded)) L
 
     module _ (x : Float) (depth : ℕ) (X : x ≡ loadedAt kind loaded (length lengths)) (D : depth ≡ gateDepth kind rates x lengths chains curve) (own : Bool) where
       deep : depth ≡ depthOver kind n rates (loadedAt kind loaded n) (chainsExpected n gamma chains) curve
       deep = D ∙ ap (λ (y : Float). gateDepth kind rates y lengths chains curve) X ∙ depth-is
 
-      to-gate : (c : Chosen) (drafts : List ℕ) → c ≡ gateOf kind rates loaded curve lengths chains depth → gateBy own depth c drafts ≡ gateOver own kind rates loaded curve n gamma chains drafts
+      to-gate : (c : Chosen) (drafts : List ℕ) → c ≡ gateOf mode kind rates loaded curve lengths chains depth → gateBy own depth c drafts ≡ gateOver own mode kind rates loaded curve n gamma chains drafts
       unfolding gateOver
       to-gate c drafts e =
           ap (λ (q : Chosen). gateBy own depth q drafts) (e ∙ gate-is depth)
-          ∙ ap (λ (d : ℕ). gateBy own d (gateAt kind rates loaded curve n gamma chains d) drafts) deep
+          ∙ ap (λ (d : ℕ). gateBy own d (gateAt mode kind rates loaded curve n gamma chains d) drafts) deep
 
-      pub own-drafts : (weighed : ℕ) (widths drafts : List ℕ) → own ≡ true → record { widths = widths; weighed = weighed } ≡ gateOf kind rates loaded curve lengths chains depth
-          → record { depth = depth; weighed = weighed; drafts = widths } ≡ gateOver own kind rates loaded curve n gamma chains drafts
+      pub own-drafts : (weighed : ℕ) (widths drafts : List ℕ) → own ≡ true → record { widths = widths; weighed = weighed } ≡ gateOf mode kind rates loaded curve lengths chains depth
+          → record { depth = depth; weighed = weighed; drafts = widths } ≡ gateOver own mode kind rates loaded curve n gamma chains drafts
       own-drafts weighed widths drafts o e =
           ap (λ (b : Bool). gateBy b depth (record { widths = widths; weighed = weighed }) drafts) (sym o) ∙ to-gate (record { widths = widths; weighed = weighed }) drafts e
 
-      pub no-drafts : (drafts : List ℕ) → own ≡ false → record { depth = depth; weighed = 0; drafts = drafts } ≡ gateOver own kind rates loaded curve n gamma chains drafts
+      pub no-drafts : (drafts : List ℕ) → own ≡ false → record { depth = depth; weighed = 0; drafts = drafts } ≡ gateOver own mode kind rates loaded curve n gamma chains drafts
       no-drafts drafts o =
-          let c = gateOf kind rates loaded curve lengths chains depth in
+          let c = gateOf mode kind rates loaded curve lengths chains depth in
           ap (λ (b : Bool). gateBy b depth c drafts) (sym o) ∙ to-gate c drafts refl
 
 -- an array of one value

@@ -9,7 +9,8 @@ use Rattle.speculative.specs.declared.drafter.Rates.{Rates}
 use Rattle.speculative.specs.declared.drafter.DrafterCost.{DrafterCost}
 use Rattle.speculative.specs.Drafter.{isBlock, loadedAt}
 use Rattle.depths.specs.Pricing.{depthOver}
-use Rattle.verify_prices.specs.Price.{verifyCost}
+use Rattle.verify_prices.specs.Rule.{ruleOf}
+use Rattle.verify_prices.specs.declared.PriceMode.{PriceMode}
 use Rattle.slots.specs.Gate.{Chosen}
 use Rattle.block.specs.Block.{blockGate}
 use Rattle.trim.specs.Ragged.{raggedGate}
@@ -30,16 +31,16 @@ gateBy true depth c drafts = record { depth = depth; weighed = c .weighed; draft
 gateBy false depth c drafts = record { depth = depth; weighed = 0; drafts = drafts }
 
 -- over chains that are as long as gamma
-unfoldable pub gateOver : Bool → DrafterCost → Rates → List Float → List Float → ℕ → ℕ → List Float → List ℕ → Gate
-gateOver own kind rates loaded curve n gamma chains drafts =
+unfoldable pub gateOver : Bool → PriceMode → DrafterCost → Rates → List Float → List Float → ℕ → ℕ → List Float → List ℕ → Gate
+gateOver own mode kind rates loaded curve n gamma chains drafts =
     let depth = depthOver kind n rates (loadedAt kind loaded n) (chainsExpected n gamma chains) curve in
-    gateBy own depth (gateAt kind rates loaded curve n gamma chains depth) drafts
+    gateBy own depth (gateAt mode kind rates loaded curve n gamma chains depth) drafts
 
 -- the gate of the drafter, over chains that each have their own length
-abbrev pub gateOf : DrafterCost → Rates → List Float → List Float → List ℕ → List Float → ℕ → Chosen
-gateOf kind rates loaded curve lengths chains depth =
-    let price = verifyCost curve (length lengths) in
-    cond (isBlock kind) (blockGate price chains lengths curve depth kind rates loaded) (raggedGate price chains lengths depth kind rates loaded)
+abbrev pub gateOf : PriceMode → DrafterCost → Rates → List Float → List Float → List ℕ → List Float → ℕ → Chosen
+gateOf mode kind rates loaded curve lengths chains depth =
+    let rule = ruleOf mode curve (length lengths) in
+    cond (isBlock kind) (blockGate rule chains lengths curve depth kind rates loaded) (raggedGate rule chains lengths depth kind rates loaded)
 
 -- what is known of a gated batch
 pub record Batched (s : Settings) (a : Ask) (gamma : ℕ) (indices : List ℕ) (curve : List Float) (drafts : List ℕ) : Type 0 where

@@ -10,7 +10,8 @@ use Rattle.speculative.specs.Drafter.{isBlock}
 use Rattle.speculative.specs.declared.drafter.Rates.{Rates}
 use Rattle.speculative.specs.declared.drafter.DrafterCost.{DrafterCost}
 use Rattle.chains.specs.Expected.{expectedOver}
-use Rattle.verify_prices.specs.Price.{verifyCost}
+use Rattle.verify_prices.specs.Rule.{ruleOf}
+use Rattle.verify_prices.specs.declared.PriceMode.{PriceMode}
 use Rattle.slots.specs.Gate.{Chosen}
 use Rattle.block.specs.Block.{blockGate}
 use Rattle.trim.specs.Ragged.{raggedGate}
@@ -27,8 +28,8 @@ abbrev pub chainsExpected : ℕ → ℕ → List Float → List Float
 chainsExpected n gamma chains = take (gamma + 1) (expectedOver gamma (replicate n gamma) chains)
 
 -- ---- each sequence's own draft: a block head's by the block gate, any other's by the ragged gate, within the batch's depth
-abbrev pub gateAt : DrafterCost → Rates → List Float → List Float → ℕ → ℕ → List Float → ℕ → Chosen
-gateAt kind rates loaded curve n gamma chains depth =
+abbrev pub gateAt : PriceMode → DrafterCost → Rates → List Float → List Float → ℕ → ℕ → List Float → ℕ → Chosen
+gateAt mode kind rates loaded curve n gamma chains depth =
     cond (isBlock kind)
-    (blockGate (verifyCost curve n) chains (replicate n gamma) curve depth kind rates loaded)
-    (raggedGate (verifyCost curve n) chains (replicate n gamma) depth kind rates loaded)
+    (blockGate (ruleOf mode curve n) chains (replicate n gamma) curve depth kind rates loaded)
+    (raggedGate (ruleOf mode curve n) chains (replicate n gamma) depth kind rates loaded)

@@ -5,6 +5,7 @@ use asking::Ask;
 use settings::Settings;
 use speculative::drafter::DrafterCost;
 use speculative::drafter::Rates;
+use verify_prices::PriceMode;
 ghost use mathlib.Core.Path.{_≡_};
 ghost use Prim.Native.Nat.{_+_, _*_, _≤_, _<_};
 ghost use lib.ListN.{length, replicate};
@@ -57,6 +58,7 @@ fn lay_chains(
 fn gate(
     chains: &[f64],
     lengths: &[u32],
+    mode: PriceMode,
     curve: &[f64],
     depth: u32,
     kind: DrafterCost,
@@ -67,12 +69,13 @@ fn gate(
     requires { ⌜ Fits (now chains) (now lengths) (length (now lengths)) ⌝ }
     requires { ⌜ (depth < length (now curve)) × (length (now curve) ≤ 65) ⌝ }
     requires { ⌜ length (now drafts) ≡ length (now lengths) ⌝ }
-    ensures { λ w. ⌜ record { widths = now (drafts .exit); weighed = w } ≡ gateOf kind rates (now (loaded .entry)) (now (curve .entry)) (now (lengths .entry)) (now (chains .entry)) depth ⌝ }
+    ensures { λ w. ⌜ record { widths = now (drafts .exit); weighed = w } ≡ gateOf mode kind rates (now (loaded .entry)) (now (curve .entry)) (now (lengths .entry)) (now (chains .entry)) depth ⌝ }
 {
     if speculative::drafter::is_block(kind) {
         return block::inner::gated_block_verify(
             chains,
             lengths,
+            mode,
             curve,
             depth,
             kind,
@@ -81,7 +84,17 @@ fn gate(
             drafts,
         );
     }
-    ragged::inner::gated_ragged_draft(chains, lengths, curve, depth, kind, rates, loaded, drafts)
+    ragged::inner::gated_ragged_draft(
+        chains,
+        lengths,
+        mode,
+        curve,
+        depth,
+        kind,
+        rates,
+        loaded,
+        drafts,
+    )
 }
 
 // The batch's depth over chains that are all as long as gamma; where each sequence has its own draft, it is written.
@@ -98,14 +111,25 @@ fn gate_laid(
 ) -> Gated
     requires { ⌜ (now lengths ≡ replicate (ask .sequences) gamma) × (ask .sequences * 64 ≤ length (now chains)) ⌝ }
     requires { ⌜ (gamma ≤ 64) × (ask .sequences ≤ 1024) × (length (now curve) ≡ gamma + 1) × (length (now drafts) ≡ ask .sequences) ⌝ }
-    ensures { λ r. ⌜ record { depth = r .depth; weighed = r .weighed; drafts = now (drafts .exit) } ≡ gateOver own (settings .drafter) (ask .rates) (now (loaded .entry)) (now (curve .entry)) (ask .sequences) gamma (now (chains .entry)) (now (drafts .entry)) ⌝ }
+    ensures { λ r. ⌜ record { depth = r .depth; weighed = r .weighed; drafts = now (drafts .exit) } ≡ gateOver own (settings .prices) (settings .drafter) (ask .rates) (now (loaded .entry)) (now (curve .entry)) (ask .sequences) gamma (now (chains .entry)) (now (drafts .entry)) ⌝ }
 {
     let kind = settings.drafter;
     let rates = ask.rates;
     let experts = speculative::inner::loaded_at(kind, loaded, lengths.len());
     let depth = depths::inner::gate_depth(chains, lengths, curve, kind, rates, experts);
     if own {
-        let weighed = gate(chains, lengths, curve, depth, kind, rates, loaded, drafts);
+        let mode = settings.prices;
+        let weighed = gate(
+            chains,
+            lengths,
+            mode,
+            curve,
+            depth,
+            kind,
+            rates,
+            loaded,
+            drafts,
+        );
         return Gated { depth, weighed };
     }
     Gated { depth, weighed: 0 }
@@ -128,7 +152,7 @@ fn gated_within(
 ) -> Gated
     requires { ⌜ Batched settings ask gamma (now indices) (now curve) (now drafts) ⌝ }
     requires { ⌜ (now lengths ≡ replicate (length (now lengths)) gamma) × (ask .sequences ≤ length (now lengths)) × (ask .sequences * 64 ≤ length (now chains)) × Zeros (now chains) ⌝ }
-    ensures { λ r. ⌜ record { depth = r .depth; weighed = r .weighed; drafts = now (drafts .exit) } ≡ gateOver own (settings .drafter) (ask .rates) (now (loaded .entry)) (now (curve .entry)) (ask .sequences) gamma (chainsBy (settings .model) (now (positions .entry)) (now (signals .entry)) (ask .depth) (now (indices .entry)) (ask .sequences) gamma) (now (drafts .entry)) ⌝ }
+    ensures { λ r. ⌜ record { depth = r .depth; weighed = r .weighed; drafts = now (drafts .exit) } ≡ gateOver own (settings .prices) (settings .drafter) (ask .rates) (now (loaded .entry)) (now (curve .entry)) (ask .sequences) gamma (chainsBy (settings .model) (now (positions .entry)) (now (signals .entry)) (ask .depth) (now (indices .entry)) (ask .sequences) gamma) (now (drafts .entry)) ⌝ }
 {
     let n = ask.sequences as usize;
     lay_chains(settings, ask, gamma, positions, signals, indices, chains);
@@ -160,7 +184,7 @@ fn gated_few(
     drafts: &mut [u32],
 ) -> Gated
     requires { ⌜ Batched settings ask gamma (now indices) (now curve) (now drafts) × (ask .sequences ≤ 8) ⌝ }
-    ensures { λ r. ⌜ record { depth = r .depth; weighed = r .weighed; drafts = now (drafts .exit) } ≡ gateOver own (settings .drafter) (ask .rates) (now (loaded .entry)) (now (curve .entry)) (ask .sequences) gamma (chainsBy (settings .model) (now (positions .entry)) (now (signals .entry)) (ask .depth) (now (indices .entry)) (ask .sequences) gamma) (now (drafts .entry)) ⌝ }
+    ensures { λ r. ⌜ record { depth = r .depth; weighed = r .weighed; drafts = now (drafts .exit) } ≡ gateOver own (settings .prices) (settings .drafter) (ask .rates) (now (loaded .entry)) (now (curve .entry)) (ask .sequences) gamma (chainsBy (settings .model) (now (positions .entry)) (now (signals .entry)) (ask .depth) (now (indices .entry)) (ask .sequences) gamma) (now (drafts .entry)) ⌝ }
 {
     let lengths = [gamma; 8];
     let mut chains = [0.0; 512];
@@ -194,7 +218,7 @@ fn gated_some(
     drafts: &mut [u32],
 ) -> Gated
     requires { ⌜ Batched settings ask gamma (now indices) (now curve) (now drafts) × (ask .sequences ≤ 64) ⌝ }
-    ensures { λ r. ⌜ record { depth = r .depth; weighed = r .weighed; drafts = now (drafts .exit) } ≡ gateOver own (settings .drafter) (ask .rates) (now (loaded .entry)) (now (curve .entry)) (ask .sequences) gamma (chainsBy (settings .model) (now (positions .entry)) (now (signals .entry)) (ask .depth) (now (indices .entry)) (ask .sequences) gamma) (now (drafts .entry)) ⌝ }
+    ensures { λ r. ⌜ record { depth = r .depth; weighed = r .weighed; drafts = now (drafts .exit) } ≡ gateOver own (settings .prices) (settings .drafter) (ask .rates) (now (loaded .entry)) (now (curve .entry)) (ask .sequences) gamma (chainsBy (settings .model) (now (positions .entry)) (now (signals .entry)) (ask .depth) (now (indices .entry)) (ask .sequences) gamma) (now (drafts .entry)) ⌝ }
 {
     let lengths = [gamma; 64];
     let mut chains = [0.0; 4096];
@@ -228,7 +252,7 @@ fn gated_many(
     drafts: &mut [u32],
 ) -> Gated
     requires { ⌜ Batched settings ask gamma (now indices) (now curve) (now drafts) ⌝ }
-    ensures { λ r. ⌜ record { depth = r .depth; weighed = r .weighed; drafts = now (drafts .exit) } ≡ gateOver own (settings .drafter) (ask .rates) (now (loaded .entry)) (now (curve .entry)) (ask .sequences) gamma (chainsBy (settings .model) (now (positions .entry)) (now (signals .entry)) (ask .depth) (now (indices .entry)) (ask .sequences) gamma) (now (drafts .entry)) ⌝ }
+    ensures { λ r. ⌜ record { depth = r .depth; weighed = r .weighed; drafts = now (drafts .exit) } ≡ gateOver own (settings .prices) (settings .drafter) (ask .rates) (now (loaded .entry)) (now (curve .entry)) (ask .sequences) gamma (chainsBy (settings .model) (now (positions .entry)) (now (signals .entry)) (ask .depth) (now (indices .entry)) (ask .sequences) gamma) (now (drafts .entry)) ⌝ }
 {
     let lengths = [gamma; 1024];
     let mut chains = [0.0; 65536];
@@ -262,7 +286,7 @@ fn gated_more(
     drafts: &mut [u32],
 ) -> Gated
     requires { ⌜ Batched settings ask gamma (now indices) (now curve) (now drafts) ⌝ }
-    ensures { λ r. ⌜ record { depth = r .depth; weighed = r .weighed; drafts = now (drafts .exit) } ≡ gateOver own (settings .drafter) (ask .rates) (now (loaded .entry)) (now (curve .entry)) (ask .sequences) gamma (chainsBy (settings .model) (now (positions .entry)) (now (signals .entry)) (ask .depth) (now (indices .entry)) (ask .sequences) gamma) (now (drafts .entry)) ⌝ }
+    ensures { λ r. ⌜ record { depth = r .depth; weighed = r .weighed; drafts = now (drafts .exit) } ≡ gateOver own (settings .prices) (settings .drafter) (ask .rates) (now (loaded .entry)) (now (curve .entry)) (ask .sequences) gamma (chainsBy (settings .model) (now (positions .entry)) (now (signals .entry)) (ask .depth) (now (indices .entry)) (ask .sequences) gamma) (now (drafts .entry)) ⌝ }
 {
     if ask.sequences <= 64 {
         return gated_some(
@@ -307,7 +331,7 @@ pub fn gate_batch(
     drafts: &mut [u32],
 ) -> Gated
     requires { ⌜ Batched settings ask gamma (now indices) (now curve) (now drafts) ⌝ }
-    ensures { λ r. ⌜ record { depth = r .depth; weighed = r .weighed; drafts = now (drafts .exit) } ≡ gateOver own (settings .drafter) (ask .rates) (now (loaded .entry)) (now (curve .entry)) (ask .sequences) gamma (chainsBy (settings .model) (now (positions .entry)) (now (signals .entry)) (ask .depth) (now (indices .entry)) (ask .sequences) gamma) (now (drafts .entry)) ⌝ }
+    ensures { λ r. ⌜ record { depth = r .depth; weighed = r .weighed; drafts = now (drafts .exit) } ≡ gateOver own (settings .prices) (settings .drafter) (ask .rates) (now (loaded .entry)) (now (curve .entry)) (ask .sequences) gamma (chainsBy (settings .model) (now (positions .entry)) (now (signals .entry)) (ask .depth) (now (indices .entry)) (ask .sequences) gamma) (now (drafts .entry)) ⌝ }
 {
     if ask.sequences <= 8 {
         return gated_few(

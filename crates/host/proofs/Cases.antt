@@ -8,6 +8,8 @@ use Rattle.acceptance.specs.declared.AcceptanceModel.{AcceptanceModel}
 use Rattle.acceptance.specs.declared.AcceptanceModel.the-variants.{Constant, PerPosition, Trace}
 use Rattle.goodput.specs.declared.curve.Source.{Source}
 use Rattle.goodput.specs.declared.curve.Source.the-variants.{Roofline, Table}
+use Rattle.verify_prices.specs.declared.PriceMode.{PriceMode}
+use Rattle.verify_prices.specs.declared.PriceMode.the-variants.{Default, Bridged}
 use Rattle.settings.specs.declared.Policy.{Policy}
 use Rattle.settings.specs.declared.Policy.the-variants.{Fixed, GoodputBudget, GatedBudget, GatedAggregate}
 use Rattle.settings.specs.declared.Settings.{Settings}
@@ -20,7 +22,7 @@ use Rattle.switch_settings.specs.declared.SwitchConstraints.{SwitchConstraints}
 use Rattle.asked_rooms.specs.declared.Ask.{Ask}
 use Rattle.host.specs.declared.asked.HostSettings.{HostSettings}
 use Rattle.host.specs.declared.asked.HostAsk.{HostAsk}
-use Rattle.host.specs.Asked.{settingsFit, askFits, modelOf, policyOf, stepOf, sourceOf, drafterOf}
+use Rattle.host.specs.Asked.{settingsFit, askFits, modelOf, policyOf, stepOf, pricesOf, sourceOf, drafterOf}
 
 module _ (k : ℕ) (alpha : Float) where
   pub constant : k ≡ 0 → Constant alpha ≡ modelOf k alpha
@@ -51,6 +53,14 @@ module _ (k : ℕ) where
   pub aggregate : (k ≡ 0 → ⊥) → (k ≡ 1 → ⊥) → (k ≡ 2 → ⊥) → GatedAggregate ≡ policyOf k
   unfolding policyOf
   aggregate n m l = rw (ne-eqb k 0 n, ne-eqb k 1 m, ne-eqb k 2 l)
+
+  pub default : k ≡ 0 → Default ≡ pricesOf k
+  unfolding pricesOf
+  default h = rw (eq-eqb k 0 h)
+
+  pub bridged : (k ≡ 0 → ⊥) → Bridged ≡ pricesOf k
+  unfolding pricesOf
+  bridged n = rw (ne-eqb k 0 n)
 
   pub roofline : k ≡ 0 → Roofline ≡ sourceOf k
   unfolding sourceOf
@@ -99,9 +109,13 @@ module _ (s : HostSettings) where
   unfolding settingsFit
   no-steps p m d h = rw (le-leb (s .policy) 3 p, le-leb (s .model) 2 m, le-leb (s .drafter) 2 d, lt-leb (s .steps) 1 h)
 
-  pub all-fit : s .policy ≤ 3 → s .model ≤ 2 → s .drafter ≤ 2 → s .steps ≤ 1 → true ≡ settingsFit s
+  pub no-prices : s .policy ≤ 3 → s .model ≤ 2 → s .drafter ≤ 2 → s .steps ≤ 1 → 1 < s .prices → false ≡ settingsFit s
   unfolding settingsFit
-  all-fit p m d h = rw (le-leb (s .policy) 3 p, le-leb (s .model) 2 m, le-leb (s .drafter) 2 d, le-leb (s .steps) 1 h)
+  no-prices p m d k h = rw (le-leb (s .policy) 3 p, le-leb (s .model) 2 m, le-leb (s .drafter) 2 d, le-leb (s .steps) 1 k, lt-leb (s .prices) 1 h)
+
+  pub all-fit : s .policy ≤ 3 → s .model ≤ 2 → s .drafter ≤ 2 → s .steps ≤ 1 → s .prices ≤ 1 → true ≡ settingsFit s
+  unfolding settingsFit
+  all-fit p m d k h = rw (le-leb (s .policy) 3 p, le-leb (s .model) 2 m, le-leb (s .drafter) 2 d, le-leb (s .steps) 1 k, le-leb (s .prices) 1 h)
 
 module _ (a : HostAsk) where
   pub no-source : 1 < a .source → false ≡ askFits a
@@ -115,12 +129,15 @@ module _ (a : HostAsk) where
 abbrev pub switched : HostSettings → MaxStep → SwitchConstraints
 switched s step = record { «cooldown_rounds» = s .«cooldown_rounds»; «max_step» = step; «cost_ms» = s .«cost_ms» }
 
-abbrev pub set : ℕ → AcceptanceModel → Policy → SwitchConstraints → DrafterCost → Settings
-set gamma model policy switch drafter = record { gamma = gamma; model = model; policy = policy; switch = switch; drafter = drafter }
+abbrev pub set : ℕ → AcceptanceModel → Policy → SwitchConstraints → DrafterCost → PriceMode → Settings
+set gamma model policy switch drafter prices = record { gamma = gamma; model = model; policy = policy; switch = switch; drafter = drafter; prices = prices }
 
-pub all-set : (g : ℕ) → (m m' : AcceptanceModel) → (p p' : Policy) → (s s' : SwitchConstraints) → (d d' : DrafterCost) → m ≡ m' → p ≡ p' → s ≡ s' → d ≡ d' → set g m p s d ≡ set g m' p' s' d'
-all-set g m m' p p' s s' d d' hm hp hs hd =
-    ap (λ (x : AcceptanceModel). set g x p s d) hm ∙ (ap (λ (x : Policy). set g m' x s d) hp ∙ (ap (λ (x : SwitchConstraints). set g m' p' x d) hs ∙ ap (λ (x : DrafterCost). set g m' p' s' x) hd))
+pub all-set : (g : ℕ) (m m' : AcceptanceModel) (p p' : Policy) (s s' : SwitchConstraints) (d d' : DrafterCost) (q q' : PriceMode) → m ≡ m' → p ≡ p' → s ≡ s' → d ≡ d' → q ≡ q'
+    → set g m p s d q ≡ set g m' p' s' d' q'
+all-set g m m' p p' s s' d d' q q' hm hp hs hd hq =
+    ap (λ (x : AcceptanceModel). set g x p s d q) hm
+    ∙ (ap (λ (x : Policy). set g m' x s d q) hp
+    ∙ (ap (λ (x : SwitchConstraints). set g m' p' x d q) hs ∙ (ap (λ (x : DrafterCost). set g m' p' s' x q) hd ∙ ap (λ (x : PriceMode). set g m' p' s' d' x) hq)))
 
 abbrev pub asked : HostAsk → Rates → Source → Ask
 asked a rates source =

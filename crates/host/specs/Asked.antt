@@ -13,6 +13,8 @@ use Rattle.switch_settings.specs.declared.MaxStep.the-variants.{Unlimited, AtMo
 use Rattle.switch_settings.specs.declared.SwitchConstraints.{SwitchConstraints}
 use Rattle.goodput.specs.declared.curve.Source.{Source}
 use Rattle.goodput.specs.declared.curve.Source.the-variants.{Roofline, Table}
+use Rattle.verify_prices.specs.declared.PriceMode.{PriceMode}
+use Rattle.verify_prices.specs.declared.PriceMode.the-variants.{Default, Bridged}
 use Rattle.settings.specs.declared.Policy.{Policy}
 use Rattle.settings.specs.declared.Policy.the-variants.{Fixed, GoodputBudget, GatedBudget, GatedAggregate}
 use Rattle.settings.specs.declared.Settings.{Settings}
@@ -21,9 +23,9 @@ use Rattle.host.specs.declared.asked.HostSettings.{HostSettings}
 use Rattle.host.specs.declared.asked.HostRates.{HostRates}
 use Rattle.host.specs.declared.asked.HostAsk.{HostAsk}
 
--- each number of a case stands for one: four policies, three models, three drafters, two ways to walk, two sources of prices
+-- each number of a case stands for one: four policies, three models, three drafters, two ways to walk, two price modes, two sources of prices
 unfoldable pub settingsFit : HostSettings → Bool
-settingsFit s = leb (s .policy) 3 && (leb (s .model) 2 && (leb (s .drafter) 2 && leb (s .steps) 1))
+settingsFit s = leb (s .policy) 3 && (leb (s .model) 2 && (leb (s .drafter) 2 && (leb (s .steps) 1 && leb (s .prices) 1)))
 
 unfoldable pub askFits : HostAsk → Bool
 askFits a = leb (a .source) 1
@@ -36,6 +38,9 @@ policyOf policy = cond (eqb policy 0) Fixed (cond (eqb policy 1) GoodputBudget (
 
 unfoldable pub stepOf : ℕ → ℕ → MaxStep
 stepOf steps most = cond (eqb steps 0) Unlimited (AtMost most)
+
+unfoldable pub pricesOf : ℕ → PriceMode
+pricesOf prices = cond (eqb prices 0) Default Bridged
 
 unfoldable pub sourceOf : ℕ → Source
 sourceOf source = cond (eqb source 0) Roofline Table
@@ -53,7 +58,7 @@ abbrev pub ratesOf : HostRates → Rates
 ratesOf r = record { peak = r .peak; bw = r .bw; «kv_delta» = r .«kv_delta» }
 
 abbrev pub settingsOf : HostSettings → Settings
-settingsOf s = record { gamma = s .gamma; model = modelOf (s .model) (s .alpha); policy = policyOf (s .policy); switch = switchOf s; drafter = drafterOf s }
+settingsOf s = record { gamma = s .gamma; model = modelOf (s .model) (s .alpha); policy = policyOf (s .policy); switch = switchOf s; drafter = drafterOf s; prices = pricesOf (s .prices) }
 
 abbrev pub askOf : HostAsk → Ask
 askOf a =

@@ -8,10 +8,11 @@ use speculative::drafter::DrafterCost;
 use speculative::drafter::Rates;
 use switch_settings::MaxStep;
 use switch_settings::SwitchConstraints;
+use verify_prices::PriceMode;
 ghost use mathlib.Core.Path.{_≡_};
-ghost use Rattle.host.specs.Asked.{modelOf, policyOf, stepOf, drafterOf, sourceOf, switchOf, ratesOf, settingsOf, askOf, settingsFit, askFits};
+ghost use Rattle.host.specs.Asked.{modelOf, policyOf, stepOf, drafterOf, pricesOf, sourceOf, switchOf, ratesOf, settingsOf, askOf, settingsFit, askFits};
 
-// `policy`, `model`, `steps` and `drafter` are numbers of cases. Only the fields of the case that is named are read.
+// `policy`, `model`, `steps`, `drafter` and `prices` are numbers of cases. Only the fields of the case that is named are read.
 #[repr(C)]
 pub struct HostSettings {
     pub alpha: f64,
@@ -31,6 +32,7 @@ pub struct HostSettings {
     pub experts_per_tok: u32,
     pub shared_experts: u32,
     pub block: u32,
+    pub prices: u32,
 }
 
 #[repr(C)]
@@ -68,6 +70,9 @@ pub fn settings_fit(s: HostSettings) -> bool
         return false;
     }
     if 1 < s.steps {
+        return false;
+    }
+    if 1 < s.prices {
         return false;
     }
     true
@@ -143,6 +148,16 @@ pub fn drafter_of(s: HostSettings) -> DrafterCost
     }
 }
 
+// 0 the default, 1 bridged.
+fn prices_of(prices: u32) -> PriceMode
+    ensures { λ r. ⌜ r ≡ pricesOf prices ⌝ }
+{
+    if prices == 0 {
+        return PriceMode::Default;
+    }
+    PriceMode::Bridged
+}
+
 // 0 the roofline, 1 the table.
 fn source_of(source: u32) -> Source
     ensures { λ r. ⌜ r ≡ sourceOf source ⌝ }
@@ -181,12 +196,14 @@ pub fn settings_of(s: HostSettings) -> Settings
     let policy = policy_of(s.policy);
     let switch = switch_of(s);
     let drafter = drafter_of(s);
+    let prices = prices_of(s.prices);
     Settings {
         gamma: s.gamma,
         model,
         policy,
         switch,
         drafter,
+        prices,
     }
 }
 

@@ -20,6 +20,7 @@ use Rattle.ledger_rows.proofs.Tests.{by-test}
 use Rattle.ledger_workers.specs.Workers.{pastOf}
 use Rattle.ledger.specs.declared.answer.Decision.the-variants.{Nothing}
 use Rattle.ledger.specs.Calls.{recorded}
+use Rattle.verify_prices.specs.declared.PriceMode.{PriceMode}
 use Rattle.settings.specs.declared.Policy.{Policy}
 use Rattle.settings.specs.declared.Policy.the-variants.{Fixed, GoodputBudget, GatedBudget, GatedAggregate}
 use Rattle.settings.specs.declared.Settings.{Settings}
@@ -108,7 +109,7 @@ module _ (s : Settings) (a : Ask) (l : Lent) (past : Past) where
   unfolding decidedBy
   few-weighed Fixed = zero-le
   few-weighed GoodputBudget = zero-le
-  few-weighed GatedBudget = gate-weighed (a .sequences) (gammaIn s (a .depth)) (s .drafter) (a .rates) (l .loaded) (curveOf s a l) (chainsIn (best s a l) s a l (curveOf s a l)) (bestIn (best s a l) s a l (curveOf s a l))
+  few-weighed GatedBudget = gate-weighed (a .sequences) (gammaIn s (a .depth)) (s .prices) (s .drafter) (a .rates) (l .loaded) (curveOf s a l) (chainsIn (best s a l) s a l (curveOf s a l)) (bestIn (best s a l) s a l (curveOf s a l))
   few-weighed GatedAggregate = by-test (isUnconstrained (s .switch)) (λ q. rw q zero-le) (λ q. rw q zero-le)
 
 -- ---- a trace draws one index for each sequence
@@ -149,7 +150,7 @@ module _ (s : Settings) (a : Ask) (l : Lent) where
 
 -- other settings than those of the model
 abbrev pub under-policy : Settings → Policy → Settings
-under-policy s policy = record { gamma = s .gamma; model = s .model; policy = policy; switch = s .switch; drafter = s .drafter }
+under-policy s policy = record { gamma = s .gamma; model = s .model; policy = policy; switch = s .switch; drafter = s .drafter; prices = s .prices }
 
 drawn-alike : (s : Settings) (policy : Policy) (a : Ask) (l : Lent) (model : AcceptanceModel) → drawnBy (under-policy s policy) a l model ≡ drawnBy s a l model
 unfolding drawnBy
@@ -194,19 +195,32 @@ priced l roofline depths batches seconds loaded signals curve = record {
   indices = l .indices;
 }
 
-module _ (gamma : ℕ) (model : AcceptanceModel) (switch : SwitchConstraints) (drafter : DrafterCost) where
+module _ (gamma : ℕ) (model : AcceptanceModel) (switch : SwitchConstraints) (drafter : DrafterCost) (prices : PriceMode) where
   abbrev pub fixed : Settings
-  fixed = record { gamma = gamma; model = model; policy = Fixed; switch = switch; drafter = drafter }
+  fixed = record { gamma = gamma; model = model; policy = Fixed; switch = switch; drafter = drafter; prices = prices }
 
-module _ (gamma : ℕ) (switch : SwitchConstraints) (drafter : DrafterCost) (a : Ask) (rates : Rates) (l : Lent) (roofline : List Float) (depths batches : List ℕ) (seconds loaded signals curve : List Float) (ws ds cs : List ℕ) where
+module _ (gamma : ℕ) (switch : SwitchConstraints) (drafter : DrafterCost) (prices : PriceMode) (a : Ask) (rates : Rates) (l : Lent) (roofline : List Float) (depths batches : List ℕ) (seconds loaded signals curve : List Float) (ws ds cs : List ℕ) where
   abbrev a′ : Ask
   a′ = rated a rates
 
   abbrev l′ : Lent
   l′ = priced l roofline depths batches seconds loaded signals curve
 
-  pub fixed-is-costless : (model : AcceptanceModel) → planned (fixed gamma model switch drafter) a′ l′ ws ds cs ≡ planned (fixed gamma model switch drafter) a l ws ds cs
+  pub fixed-is-costless : (model : AcceptanceModel) → planned (fixed gamma model switch drafter prices) a′ l′ ws ds cs ≡ planned (fixed gamma model switch drafter prices) a l ws ds cs
   unfolding planned planRefusal askedRefusal roomsRefusal valuesRefusal signalsRefusal drawnBy decidedBy made
   fixed-is-costless (Constant alpha) = refl
   fixed-is-costless PerPosition = refl
   fixed-is-costless Trace = refl
+
+-- ---- GatedBudget alone reads the price mode: any other plan is the same in both
+module _ (gamma : ℕ) (model : AcceptanceModel) (switch : SwitchConstraints) (drafter : DrafterCost) where
+  abbrev pub pricedBy : PriceMode → Policy → Settings
+  pricedBy mode policy = record { gamma = gamma; model = model; policy = policy; switch = switch; drafter = drafter; prices = mode }
+
+  pub mode-unread : (a : Ask) (l : Lent) (ws ds cs : List ℕ) (mode other : PriceMode) (policy : Policy) → (policy ≡ GatedBudget → ⊥)
+      → planned (pricedBy mode policy) a l ws ds cs ≡ planned (pricedBy other policy) a l ws ds cs
+  unfolding planned planRefusal askedRefusal roomsRefusal valuesRefusal signalsRefusal drawnBy decidedBy made settingsRefusal curveOf
+  mode-unread a l ws ds cs mode other Fixed h = refl
+  mode-unread a l ws ds cs mode other GoodputBudget h = refl
+  mode-unread a l ws ds cs mode other GatedBudget h = absurd (h refl)
+  mode-unread a l ws ds cs mode other GatedAggregate h = refl

@@ -22,6 +22,7 @@ use Rattle.ledger_rows.specs.Layout.{room, workersMost, stepsMost}
 use Rattle.ledger.specs.Calls.{emptied}
 use Rattle.ledger_laws.specs.Encode.{pastFrom}
 use Rattle.ledger_laws.specs.Model.{Change, counted, sumsAt, recordOf, secondsOf, workersOf, stepRule, workerRule}
+use Rattle.verify_prices.specs.declared.PriceMode.the-variants.{Default}
 use Rattle.settings.specs.declared.Policy.the-variants.{GatedAggregate}
 use Rattle.settings.specs.declared.Settings.{Settings}
 use Rattle.settings.specs.Settings.{settingsRefusal}
@@ -44,7 +45,7 @@ use Rattle.planner_laws.proofs.Examples.{half, moment}
 
 -- one best depth, passed through a switching that waits two rounds: it keeps a record for each worker
 abbrev pub settings : Settings
-settings = record { gamma = 0; model = Constant half; policy = GatedAggregate; switch = record { «cooldown_rounds» = 2; «max_step» = Unlimited; «cost_ms» = f0 }; drafter = absent }
+settings = record { gamma = 0; model = Constant half; policy = GatedAggregate; switch = record { «cooldown_rounds» = 2; «max_step» = Unlimited; «cost_ms» = f0 }; drafter = absent; prices = Default }
 
 -- one sequence of worker (0, i)
 abbrev pub ask : ℕ → Ask

@@ -113,7 +113,7 @@ module _ (s : Settings) (a : Ask) (l : Lent) (small : s .gamma ≤ 64) where
   by-policy Fixed past v = equal (s .gamma) small
   by-policy GoodputBudget past v = equal (best s a l (meanExpected (s .model) (l .positions) (l .bankCurve) (a .depth) (a .sequences) (gammaIn s (a .depth))) curve) (any-best _)
   by-policy GatedBudget past v = wider (a .sequences) (gammaIn s (a .depth)) 64 _ (le-trans (under-le (s .policy) (s .model) (s .gamma) (a .depth)) small)
-      (gate-narrow (a .sequences) (gammaIn s (a .depth)) (s .drafter) (a .rates) (l .loaded) curve (chainsIn (best s a l) s a l curve) target)
+      (gate-narrow (a .sequences) (gammaIn s (a .depth)) (s .prices) (s .drafter) (a .rates) (l .loaded) curve (chainsIn (best s a l) s a l curve) target)
   by-policy GatedAggregate past v = aggregate past v
 
 -- ---- of an accepted plan

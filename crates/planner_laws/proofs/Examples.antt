@@ -14,6 +14,7 @@ use Rattle.switch_settings.specs.declared.MaxStep.the-variants.{Unlimited}
 use Rattle.ledger_rows.specs.Layout.{room}
 use Rattle.ledger.specs.Calls.{emptied}
 use Rattle.ledger_laws.specs.Model.{sumsAt, recordOf, secondsOf, stepRule}
+use Rattle.verify_prices.specs.declared.PriceMode.the-variants.{Default}
 use Rattle.settings.specs.declared.Policy.the-variants.{Fixed}
 use Rattle.settings.specs.declared.Settings.{Settings}
 use Rattle.settings.specs.Settings.{settingsRefusal}
@@ -40,7 +41,7 @@ abbrev pub moment : Float
 moment = ofBits binary64 0x4016_0000_0000_0000
 
 abbrev pub settings : Settings
-settings = record { gamma = 3; model = Constant half; policy = Fixed; switch = record { «cooldown_rounds» = 0; «max_step» = Unlimited; «cost_ms» = f0 }; drafter = absent }
+settings = record { gamma = 3; model = Constant half; policy = Fixed; switch = record { «cooldown_rounds» = 0; «max_step» = Unlimited; «cost_ms» = f0 }; drafter = absent; prices = Default }
 
 -- one sequence of worker (0, 1), whose step ends at 5.5
 abbrev pub ask : Ask

@@ -33,6 +33,7 @@ use Rattle.asked_rooms.specs.declared.Ask.{Ask}
 use Rattle.asking.specs.Asked.{Lent, tableOf, lengthsOf, costsValued, valuesRefusal}
 use Rattle.asking.specs.Values.{pricesValued, loadedValued, policyValued}
 use Rattle.asked_rooms.specs.Rooms.{priceRooms, loadedRoom, costRooms, signalRooms, bankRooms}
+use Rattle.verify_prices.specs.declared.PriceMode.{PriceMode}
 use Rattle.gating.specs.Chains.{chainsBy, gateAt}
 use Rattle.deciding.specs.Deciding.{meanExpected, each, bestIn, decidedBy}
 use Rattle.planner_laws.specs.Used.{isTable, readsLoaded, readsCurve, SameLists, SameUsed}
@@ -91,12 +92,12 @@ module _ (a : Ask) (l m : Lent) where
   loaded-is (Autoregressive dense expert experts each shared) e k = ap (λ (x : List Float). loadedAt (Autoregressive dense expert experts each shared) x k) (e refl)
   loaded-is (BlockParallel params block) e k = refl
 
-  gate-is : (kind : DrafterCost) → (readsLoaded kind ≡ true → l .loaded ≡ m .loaded) → (rates : Rates) (curve : List Float) (n g : ℕ) (chains : List Float) (depth : ℕ)
-      → gateAt kind rates (l .loaded) curve n g chains depth ≡ gateAt kind rates (m .loaded) curve n g chains depth
+  gate-is : (mode : PriceMode) (kind : DrafterCost) → (readsLoaded kind ≡ true → l .loaded ≡ m .loaded) → (rates : Rates) (curve : List Float) (n g : ℕ) (chains : List Float) (depth : ℕ)
+      → gateAt mode kind rates (l .loaded) curve n g chains depth ≡ gateAt mode kind rates (m .loaded) curve n g chains depth
   unfolding blockGate raggedGate
-  gate-is (Fraction frac) e rates curve n g chains depth = refl
-  gate-is (Autoregressive dense expert experts each shared) e rates curve n g chains depth = ap (λ (x : List Float). gateAt (Autoregressive dense expert experts each shared) rates x curve n g chains depth) (e refl)
-  gate-is (BlockParallel params block) e rates curve n g chains depth = refl
+  gate-is mode (Fraction frac) e rates curve n g chains depth = refl
+  gate-is mode (Autoregressive dense expert experts each shared) e rates curve n g chains depth = ap (λ (x : List Float). gateAt mode (Autoregressive dense expert experts each shared) rates x curve n g chains depth) (e refl)
+  gate-is mode (BlockParallel params block) e rates curve n g chains depth = refl
 
   -- a bank
   abbrev Rounds : Type 0
@@ -196,7 +197,7 @@ module _ (s : Settings) (a : Ask) (l m : Lent) (h : SameLists s a l m) where
       go Fixed curve loaded mean chains = refl
       go GoodputBudget curve loaded mean chains = rw (curve refl, mean refl, loaded-is a l m (s .drafter) (loaded refl) n)
       go GatedBudget curve loaded mean chains = rw (curve refl, chains refl, loaded-is a l m (s .drafter) (loaded refl) n)
-          (ap each (gate-is a l m (s .drafter) (loaded refl) (a .rates) (curveOf s a m) n g (chainsBy (s .model) (m .positions) (m .signals) (a .depth) (m .indices) n g) (bestIn (best s a m) s a m (curveOf s a m))))
+          (ap each (gate-is a l m (s .prices) (s .drafter) (loaded refl) (a .rates) (curveOf s a m) n g (chainsBy (s .model) (m .positions) (m .signals) (a .depth) (m .indices) n g) (bestIn (best s a m) s a m (curveOf s a m))))
       go GatedAggregate curve loaded mean chains = rw (curve refl, chains refl, loaded-is a l m (s .drafter) (loaded refl) n)
 
   -- lists that are the same where they are used give the same plan, where the rounds drawn are the same

@@ -10,6 +10,7 @@ use lib.Ieee.{Float}
 use Rattle.laws.proofs.Choices.{first, second}
 use Rattle.speculative.specs.declared.drafter.Rates.{Rates}
 use Rattle.speculative.specs.declared.drafter.DrafterCost.{DrafterCost}
+use Rattle.verify_prices.specs.Rule.{Rule}
 use Rattle.slots.specs.Gate.{Chosen}
 use Rattle.slots.specs.Slots.{Fits, AtMost, starts}
 use Rattle.trim.specs.Ragged.{passOf, raggedWidths, raggedGate}
@@ -23,18 +24,18 @@ ragged-fits depth {lengths = lengths} fits e =
     rw e
     (rw (sym (starts-length depth lengths)) at (fits-starts depth fits), λ k l. omega (arith, starts-at depth lengths k (omega (arith, starts-length depth lengths))))
 
-module _ (price : ℕ → Float → Float) (chains : List Float) (lengths : List ℕ) (depth : ℕ) (kind : DrafterCost) (rates : Rates) (loaded : List Float)
+module _ (rule : ℕ → Rule) (chains : List Float) (lengths : List ℕ) (depth : ℕ) (kind : DrafterCost) (rates : Rates) (loaded : List Float)
     (W : List ℕ) (w : W ≡ starts depth lengths) where
-  pub ragged-none : depth ≡ 0 → record { widths = W; weighed = 0 } ≡ raggedGate (price (length lengths)) chains lengths depth kind rates loaded
+  pub ragged-none : depth ≡ 0 → record { widths = W; weighed = 0 } ≡ raggedGate (rule (length lengths)) chains lengths depth kind rates loaded
   unfolding raggedGate
   ragged-none z = ap (λ (l : List ℕ). record { widths = l; weighed = 0 }) (w ∙ starts-zero depth lengths z) ∙ first (eqb depth 0) _ _ (eq-eqb depth 0 z)
 
   pub ragged-some :
-      (depth ≡ 0 → ⊥) → (answer : Chosen) → answer ≡ raggedWidths (passOf kind rates loaded) (price (length W)) chains depth W
-      → answer ≡ raggedGate (price (length lengths)) chains lengths depth kind rates loaded
+      (depth ≡ 0 → ⊥) → (answer : Chosen) → answer ≡ raggedWidths (passOf kind rates loaded) (rule (length W)) chains depth W
+      → answer ≡ raggedGate (rule (length lengths)) chains lengths depth kind rates loaded
   unfolding raggedGate
   ragged-some h answer e =
       let long : length W ≡ length lengths = ap length w ∙ starts-length depth lengths in
       let pass = passOf kind rates loaded in
-      e ∙ ap (λ (n : ℕ). raggedWidths pass (price n) chains depth W) long ∙ ap (raggedWidths pass (price (length lengths)) chains depth) w
+      e ∙ ap (λ (n : ℕ). raggedWidths pass (rule n) chains depth W) long ∙ ap (raggedWidths pass (rule (length lengths)) chains depth) w
       ∙ second (eqb depth 0) _ _ (ne-eqb depth 0 h)

@@ -7,12 +7,13 @@ use speculative::inner::pass_seconds;
 use speculative::inner::still_drafting;
 use verdict::inner::Tally;
 use verdict::inner::starting;
+use verify_prices::PriceMode;
 ghost use mathlib.Core.Path.{_≡_};
 ghost use Prim.Native.Nat.{_+_, _-_, _*_, _≤_, _<_};
 ghost use lib.ListN.{length};
 ghost use Rattle.float.specs.Floats.{f0};
 ghost use Rattle.speculative.specs.Drafter.{stillDrafting};
-ghost use Rattle.verify_prices.specs.Price.{verifyCost};
+ghost use Rattle.verify_prices.specs.Rule.{priceBy, Priced};
 ghost use Rattle.verdict.specs.Tallies.{sumsOf, Rated};
 ghost use Rattle.slots.specs.Slots.{Fits, AtMost};
 ghost use Rattle.ragged.specs.Least.{AtLeast};
@@ -136,20 +137,22 @@ pub fn full_draft(
     chains: &[f64],
     widths: &[u32],
     depth: u32,
+    mode: PriceMode,
     curve: &[f64],
+    spans: &[u8],
     passes: &[f64],
     nk: &mut [u32],
 ) -> Tally
     requires { ⌜ Fits (now chains) (now widths) (length (now widths)) ⌝ }
-    requires { ⌜ (1 < length (now curve)) × (length (now curve) ≤ 65) ⌝ }
+    requires { ⌜ Priced mode (now curve) (now spans) ⌝ }
     requires { ⌜ (length (now widths) < length (now passes)) × (depth ≤ 64) × (length (now nk) ≡ 64) ⌝ }
     ensures counts { λ _. ⌜ Counts (now (nk .exit)) (now (widths .entry)) depth ⌝ }
     ensures sums { λ r. ⌜ sumsOf r ≡ fullDraft (listed (now (passes .entry))) (now (chains .entry)) depth (now (widths .entry)) .sums ⌝ }
-    ensures rated { λ r. ⌜ Rated (verifyCost (now (curve .entry)) (length (now (widths .entry)))) r ⌝ }
+    ensures rated { λ r. ⌜ Rated (priceBy mode (now (curve .entry)) (length (now (widths .entry)))) r ⌝ }
 {
     let n = widths.len() as u32;
     let sum = survivals(chains, widths);
     let t = tokens(widths);
     let seconds = drafting(widths, depth, passes, nk);
-    starting(n as f64 + sum, t, seconds, curve, n)
+    starting(n as f64 + sum, t, seconds, mode, curve, spans, n)
 }

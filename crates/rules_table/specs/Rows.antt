@@ -19,6 +19,7 @@ use Rattle.switching.specs.Deciding.{candidatesOf, atFirst, decided}
 use Rattle.switching.specs.declared.Switching.{Switching as Kept}
 use Rattle.depths.specs.Goodput.{bestOf}
 use Rattle.slots.specs.Gate.{Chosen}
+use Rattle.verify_prices.specs.declared.PriceMode.the-variants.{Default}
 use Rattle.gates.specs.Entry.{raggedChosen, blockChosen}
 use Rattle.ledger_laws.specs.Model.{Switching, Plan, Sums, Call, plan, decide, back, sumsAt, recordOf, after, nothingStands}
 
@@ -103,8 +104,8 @@ isHeldAs (some r) width counter = eqb (r .width) width && (eqb (r .rounds) count
 
 abbrev pub meets : Row → Bool
 meets (best n es cs depth) = eqb (bestOf n es cs) depth
-meets (ragged first second widths weighed) = isChosen (raggedChosen (two first second) (1 ∷ 1 ∷ []) prices 1 (Fraction f0) rates []) widths weighed
-meets (block first second widths weighed) = isChosen (blockChosen (two first second) (1 ∷ 1 ∷ []) prices 1 (BlockParallel f0 1) rates []) widths weighed
+meets (ragged first second widths weighed) = isChosen (raggedChosen (two first second) (1 ∷ 1 ∷ []) prices 1 (Fraction f0) rates [] Default) widths weighed
+meets (block first second widths weighed) = isChosen (blockChosen (two first second) (1 ∷ 1 ∷ []) prices 1 (BlockParallel f0 1) rates [] Default) widths weighed
 meets (walk width target arrives) = eqb (walkCandidates (candidatesOf evens) width target Unlimited) arrives
 meets (pruned rows batches) = same (map (λ (r : cost.Row). r .batch) (kept (map ofOneDepth rows))) batches
 meets (counted ends second drafts sequences steps) = areSums (sumsAt second (after (map planned ends) nothingStands .changes)) drafts sequences steps

@@ -2,6 +2,7 @@
 use acceptance::AcceptanceModel;
 use speculative::drafter::DrafterCost;
 use switch_settings::SwitchConstraints;
+use verify_prices::PriceMode;
 ghost use mathlib.Core.Path.{_≡_};
 ghost use Rattle.settings.specs.Settings.{settingsRefusal, gammaIn, cappedBy};
 
@@ -24,6 +25,8 @@ pub struct Settings {
     pub policy: Policy,
     pub switch: SwitchConstraints,
     pub drafter: DrafterCost,
+    // how a gate prices between depths
+    pub prices: PriceMode,
 }
 
 // 12 where the model or its positions, the drafter or the switch settings are out of range, used or not; else 0.

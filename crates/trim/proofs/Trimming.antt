@@ -11,7 +11,8 @@ use lib.Dec.{leb}
 use lib.ListN.{getD, set, length, drop, length-set}
 use lib.Seq.{getD-set-same, getD-set-other}
 use lib.Ieee.{Float}
-use Rattle.verdict.specs.Decision.{Sums, Decision, removalAt}
+use Rattle.verify_prices.specs.Rule.{Rule}
+use Rattle.verdict.specs.Decision.{Sums, Decision, removalUnder}
 use Rattle.speculative.specs.Drafter.{stillDrafting}
 use Rattle.heap.specs.Heap.{Holds}
 use Rattle.heap.specs.Greedy as greedily
@@ -43,16 +44,16 @@ trimming c depth k g h q x e =
 
 -- the decision that the code gets is the definition's
 pub drop-judged :
-    (pass : ℕ → Float) (price : Float → Float) (chains : List Float) (a : State) (k r m : ℕ) (cost : Float) (v : Decision)
-    → v ≡ removalAt price (a .sums) (survival chains k (getD (a .widths) k 0 - 1)) cost → cost ≡ marginOf pass m
+    (pass : ℕ → Float) (rule : Rule) (chains : List Float) (a : State) (k r m : ℕ) (cost : Float) (v : Decision)
+    → v ≡ removalUnder rule (a .sums) (survival chains k (getD (a .widths) k 0 - 1)) cost → cost ≡ marginOf pass m
     → m ≡ stillDrafting (a .widths) (getD (a .widths) k 0)
-    → dropSlot pass price chains a k r ≡ judged a k (getD (a .widths) k 0 - 1) v
+    → dropSlot pass rule chains a k r ≡ judged a k (getD (a .widths) k 0 - 1) v
 unfolding dropSlot
-drop-judged pass price chains a k r m cost v e p q =
+drop-judged pass rule chains a k r m cost v e p q =
     let w = getD (a .widths) k 0 in
     sym
     (ap (judged a k (w - 1)) e
-    ∙ ap (λ (x : Float). judged a k (w - 1) (removalAt price (a .sums) (survival chains k (w - 1)) x)) (p ∙ ap (marginOf pass) q))
+    ∙ ap (λ (x : Float). judged a k (w - 1) (removalUnder rule (a .sums) (survival chains k (w - 1)) x)) (p ∙ ap (marginOf pass) q))
 
 -- ---- how many sequences are j wide or more
 still-set :
@@ -111,19 +112,19 @@ module _ {nk ws : List ℕ} {depth : ℕ} (at : Counts nk ws depth) (k : ℕ) (h
 
 -- ---- the loop
 abbrev pub Trimming :
-    (ℕ → Float) → (Float → Float) → List Float → ℕ → List ℕ → List ℕ → List ℕ → List ℕ → List ℕ → State → ℕ → ℕ → Type 0
-Trimming pass price c depth ws R₀ S₀ R S a live w =
-    Going (dropSlot pass price c) (λ (a : State). a .widths) (lower c) (Open depth) (fullDraft pass c depth ws) (stacks downFrom ws c) R₀ S₀ R S a
+    (ℕ → Float) → Rule → List Float → ℕ → List ℕ → List ℕ → List ℕ → List ℕ → List ℕ → State → ℕ → ℕ → Type 0
+Trimming pass rule c depth ws R₀ S₀ R S a live w =
+    Going (dropSlot pass rule c) (λ (a : State). a .widths) (lower c) (Open depth) (fullDraft pass c depth ws) (stacks downFrom ws c) R₀ S₀ R S a
     live w
 
 pub trimming-starts :
-    (pass : ℕ → Float) (price : Float → Float) (c : List Float) (depth n : ℕ) (ws R S : List ℕ) (live : ℕ) (start : Sums)
+    (pass : ℕ → Float) (rule : Rule) (c : List Float) (depth n : ℕ) (ws R S : List ℕ) (live : ℕ) (start : Sums)
     → Fits c ws n → AtMost depth ws → live ≤ n → start ≡ fullDraft pass c depth ws .sums → Holds R S live (frontier (stacks downFrom ws c))
-    → Trimming pass price c depth ws R S R S (record { sums = start; widths = ws }) live 0
+    → Trimming pass rule c depth ws R S R S (record { sums = start; widths = ws }) live 0
 unfolding fullDraft
-trimming-starts pass price c depth n ws R S live start fits most low e holds =
+trimming-starts pass rule c depth n ws R S live start fits most low e holds =
     rw e
-    (going-start (dropSlot pass price c) (λ (a : State). a .widths) (lower c) (Open depth) (fullDraft pass c depth ws) (stacks downFrom ws c) R S
+    (going-start (dropSlot pass rule c) (λ (a : State). a .widths) (lower c) (Open depth) (fullDraft pass c depth ws) (stacks downFrom ws c) R S
     live holds (trimming-start ws c depth most) (sym (stacks-length downFrom ws c)) (omega (arith, stacks-length downFrom ws c, fits .count)))
 
 -- the top's sequence has chain, width and a slot left

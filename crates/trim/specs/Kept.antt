@@ -5,8 +5,9 @@ use mathlib.Core.Bool.{Bool, true, false, cond}
 use mathlib.Core.List.{List, [], _∷_}
 use lib.ListN.{length, getD}
 use lib.Ieee.{Float, nan, lt}
-use Rattle.float.specs.Floats.{plus, less}
+use Rattle.float.specs.Floats.{plus, less, f1}
 use Rattle.speculative.specs.Drafter.{stillDrafting}
+use Rattle.verify_prices.specs.Rule.{Rule}
 use Rattle.verdict.specs.Decision.{rateOf}
 use Rattle.verdict.specs.declared.inner.Tally.{Tally}
 use Rattle.slots.specs.Slots.{survival}
@@ -25,11 +26,15 @@ listed passes m = getD passes m nan
 pub record Passes (pass : ℕ → Float) (passes : List Float) (n : ℕ) : Type 0 where
   pub each : (m : ℕ) → m ≤ n → listed passes m ≡ pass m
 
--- whether the rate is higher without the deepest slot of sequence k, where vp is the price of one token less
-abbrev pub paysAt : Tally → Float → List Float → List Float → List ℕ → List ℕ → ℕ → Bool
-paysAt t vp chains passes nk ws k =
+-- whether the rate is higher without the deepest slot of sequence k, where vp is the price of one token less; never where that price is shut
+abbrev pub paysAt : Bool → Tally → Float → List Float → List Float → List ℕ → List ℕ → ℕ → Bool
+paysAt shut t vp chains passes nk ws k =
     let d = getD ws k 0 - 1 in
-    lt (t .rate) (rateOf (less (t .expected) (survival chains k d)) (less (plus vp (t .drafter)) (marginOf (listed passes) (getD nk d 0))))
+    cond shut false (lt (t .rate) (rateOf (less (t .expected) (survival chains k d)) (less (plus vp (t .drafter)) (marginOf (listed passes) (getD nk d 0)))))
+
+-- the same under a pricing rule
+abbrev pub paysUnder : Rule → Tally → List Float → List Float → List ℕ → List ℕ → ℕ → Bool
+paysUnder rule t chains passes nk ws k = let vp = rule .price (less (t .tokens) f1) in paysAt (rule .shut vp) t vp chains passes nk ws k
 
 -- the test holds of none of them
 unfoldable pub noneOf : (ℕ → Bool) → List ℕ → Bool

@@ -11,7 +11,8 @@ use Rattle.speculative.specs.Drafter.{stillDrafting, passSeconds, loadedAt}
 use Rattle.speculative.specs.declared.drafter.Rates.{Rates}
 use Rattle.speculative.specs.declared.drafter.DrafterCost.{DrafterCost}
 use Rattle.heap.specs.Greedy.{Verdict, greedy}
-use Rattle.verdict.specs.Decision.{removalAt}
+use Rattle.verify_prices.specs.Rule.{Rule}
+use Rattle.verdict.specs.Decision.{removalUnder}
 use Rattle.slots.specs.Slots.{starts, downFrom, stacks, survival}
 use Rattle.slots.specs.Gate.{State, judged, Chosen, chosenBy}
 
@@ -54,14 +55,14 @@ module _ (pass : ℕ → Float) where
     widths = ws;
   }
 
-  -- `price t` is the verify price of t tokens in all
-  module _ (price : Float → Float) (chains : List Float) where
+  -- `rule` prices the verify
+  module _ (rule : Rule) (chains : List Float) where
     -- the deepest slot of sequence k is given back, or the sequence is passed over where that does not pay. A sequence that is weighed has a slot, so
     -- the Rust's test for a width of 0 is never met
     unfoldable pub dropSlot : State → ℕ → ℕ → Verdict State
     dropSlot a k rank =
         let w = getD (a .widths) k 0 in
-        judged a k (w - 1) (removalAt price (a .sums) (survival chains k (w - 1)) (marginOf (stillDrafting (a .widths) w)))
+        judged a k (w - 1) (removalUnder rule (a .sums) (survival chains k (w - 1)) (marginOf (stillDrafting (a .widths) w)))
 
     -- from the widths ws, none above `depth`
     unfoldable pub raggedWidths : ℕ → List ℕ → Chosen
@@ -72,7 +73,7 @@ abbrev pub passOf : DrafterCost → Rates → List Float → ℕ → Float
 passOf kind rates loaded m = passSeconds kind m rates (loadedAt kind loaded m)
 
 -- the whole gate, where `depth` is the batch's best. At depth 0 nothing is weighed
-unfoldable pub raggedGate : (Float → Float) → List Float → List ℕ → ℕ → DrafterCost → Rates → List Float → Chosen
-raggedGate price chains lengths depth kind rates loaded =
+unfoldable pub raggedGate : Rule → List Float → List ℕ → ℕ → DrafterCost → Rates → List Float → Chosen
+raggedGate rule chains lengths depth kind rates loaded =
     cond (eqb depth 0) (record { widths = replicate (length lengths) 0; weighed = 0 })
-    (raggedWidths (passOf kind rates loaded) price chains depth (starts depth lengths))
+    (raggedWidths (passOf kind rates loaded) rule chains depth (starts depth lengths))

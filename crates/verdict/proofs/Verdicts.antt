@@ -1,9 +1,10 @@
 -- The ways out of the functions that weigh a slot, and that a tally whose rate is that of its sums decides as the definition does. Assumes nothing.
-use mathlib.Core.Path.{_≡_, refl, ap}
+use mathlib.Core.Path.{_≡_, refl, sym, ap, _∙_}
 use mathlib.Core.Bool.{Bool, true, false, cond}
 use lib.Ieee.{Float, lt}
 use Rattle.float.specs.Floats.{plus, less, f1, isFinite}
-use Rattle.verdict.specs.Decision.{Decision, passed, stopped, takenIf, rateOf, removalAt, slotAt}
+use Rattle.verify_prices.specs.Rule.{Rule}
+use Rattle.verdict.specs.Decision.{Decision, passed, stopped, takenIf, rateOf, removalAt, removalUnder, slotAt}
 use Rattle.verdict.specs.Tallies.{sumsOf, decisionOf, Rated, StillRated, tallied, removedAt, addedAt}
 use Rattle.verdict.specs.declared.inner.Tally.{Tally}
 use Rattle.verdict.specs.declared.inner.Verdict.{Verdict}
@@ -60,19 +61,36 @@ module _ (price : Float → Float) (t : Tally) (r : Rated price t) where
         (ap (λ (x : Float). rateOf (less (t .expected) s) (plus x (less (t .drafter) margin))) e) tt
 
   module _ (s vn : Float) (e : vn ≡ price (plus (t .tokens) f1)) where
-    pub slot-decided : decisionOf (addedAt t s vn) ≡ slotAt price (sumsOf t) s
+    slot-decided : decisionOf (addedAt t s vn) ≡ slotAt price (sumsOf t) s
     unfolding addedAt takenIf
     slot-decided =
         rw (← r, ← e)
         (either-decided (isFinite (plus vn (t .drafter))) _ Pass _ passed (either-decided (lt (t .rate) _) _ Stop _ stopped refl refl) refl)
 
-    pub slot-rated : StillRated price (addedAt t s vn)
+    slot-rated : StillRated price (addedAt t s vn)
     unfolding addedAt
     slot-rated =
         let nxt = rateOf (plus (t .expected) s) (plus vn (t .drafter)) in
         let new : Tally = record { expected = plus (t .expected) s; tokens = plus (t .tokens) f1; drafter = t .drafter; rate = nxt } in
         either-rated price (isFinite (plus vn (t .drafter))) (cond (lt (t .rate) nxt) (Take new) Stop) Pass
         (either-rated price (lt (t .rate) nxt) (Take new) Stop (ap (λ (x : Float). rateOf (plus (t .expected) s) (plus x (t .drafter))) e) tt) tt
+
+    pub slot-weighed : (v : Verdict) → v ≡ addedAt t s vn → (decisionOf v ≡ slotAt price (sumsOf t) s) × StillRated price v
+    slot-weighed v q = rw q (slot-decided, slot-rated)
+
+-- ---- under a pricing rule
+module _ (rule : Rule) (t : Tally) (s margin vp : Float) (e : vp ≡ rule .price (less (t .tokens) f1)) where
+  shut-as : (b : Bool) → rule .shut vp ≡ b → cond b passed (removalAt (rule .price) (sumsOf t) s margin) ≡ removalUnder rule (sumsOf t) s margin
+  shut-as b h = ap (λ (x : Bool). cond x passed (removalAt (rule .price) (sumsOf t) s margin)) (sym h ∙ ap (rule .shut) e)
+
+  pub removal-shut : rule .shut vp ≡ true → (passed ≡ removalUnder rule (sumsOf t) s margin) × StillRated (rule .price) Pass
+  removal-shut h = (shut-as true h, tt)
+
+  pub removal-open :
+      rule .shut vp ≡ false → Rated (rule .price) t → (v : Verdict) → v ≡ removedAt t s margin vp
+      → (decisionOf v ≡ removalUnder rule (sumsOf t) s margin) × StillRated (rule .price) v
+  removal-open h r v q =
+      rw q (removal-decided (rule .price) t r s margin vp e ∙ shut-as false h, removal-rated (rule .price) t r s margin vp e)
 
 -- what is taken is rated
 pub take-rated : (price : Float → Float) (v : Verdict) (t : Tally) → v ≡ Take t → StillRated price v → Rated price t

@@ -3,6 +3,7 @@
 use mathlib.Core.Bool.{cond}
 use lib.Ieee.{Float, lt, binary64, ofBits}
 use Rattle.float.specs.Floats.{plus, less, over, f1, maxOf, isFinite}
+use Rattle.verify_prices.specs.Rule.{Rule}
 
 -- 1e-12
 abbrev pub tiny : Float
@@ -50,3 +51,7 @@ module _ (price : Float → Float) where
       (takenIf (rateNow a) (rateOf (plus (a .expected) s) (nextSeconds a))
       (record { expected = plus (a .expected) s; tokens = plus (a .tokens) f1; drafter = a .drafter }) stopped)
       passed
+
+-- the ragged gate under a pricing rule: a slot is passed over where the price without it is shut
+abbrev pub removalUnder : Rule → Sums → Float → Float → Decision
+removalUnder rule a s margin = cond (rule .shut (rule .price (less (a .tokens) f1))) passed (removalAt (rule .price) a s margin)

@@ -1,11 +1,11 @@
 // The verdict of either gate on one slot. A curve has a price for each depth from 0 to gamma.
+use verify_prices::PriceMode;
+use verify_prices::bridging::bridged_cost;
+use verify_prices::inner::is_shut;
 use verify_prices::inner::verify_cost;
 ghost use mathlib.Core.Path.{_≡_};
-ghost use Prim.Native.Nat.{_<_, _≤_};
-ghost use lib.ListN.{length};
-ghost use Rattle.float.specs.Floats.{plus, less, f1};
-ghost use Rattle.verify_prices.specs.Price.{verifyCost};
-ghost use Rattle.verdict.specs.Decision.{rateOf, removalAt, slotAt};
+ghost use Rattle.verify_prices.specs.Rule.{priceBy, ruleOf, Priced};
+ghost use Rattle.verdict.specs.Decision.{rateOf, removalUnder};
 ghost use Rattle.verdict.specs.Tallies.{tallied, sumsOf, decisionOf, Rated, StillRated, removedAt, addedAt};
 
 // The expected tokens, the verify tokens and the drafter's seconds so far, and the tokens a second that they make.
@@ -43,13 +43,29 @@ fn tallied(expected: f64, tokens: f64, drafter: f64, price: f64) -> Tally
 }
 
 // What a gate starts from.
-pub fn starting(expected: f64, tokens: f64, drafter: f64, curve: &[f64], n: u32) -> Tally
-    requires { ⌜ (1 < length (now curve)) × (length (now curve) ≤ 65) ⌝ }
+pub fn starting(
+    expected: f64,
+    tokens: f64,
+    drafter: f64,
+    mode: PriceMode,
+    curve: &[f64],
+    spans: &[u8],
+    n: u32,
+) -> Tally
+    requires { ⌜ Priced mode (now curve) (now spans) ⌝ }
     ensures sums { λ r. ⌜ sumsOf r ≡ record { expected = expected; tokens = tokens; drafter = drafter } ⌝ }
-    ensures rated { λ r. ⌜ Rated (verifyCost (now (curve .entry)) n) r ⌝ }
+    ensures rated { λ r. ⌜ Rated (priceBy mode (now (curve .entry)) n) r ⌝ }
 {
-    let price = verify_cost(curve, n, tokens);
-    tallied(expected, tokens, drafter, price)
+    match mode {
+        PriceMode::Default => {
+            let price = verify_cost(curve, n, tokens);
+            tallied(expected, tokens, drafter, price)
+        }
+        PriceMode::Bridged => {
+            let price = bridged_cost(curve, spans, n, tokens);
+            tallied(expected, tokens, drafter, price)
+        }
+    }
 }
 
 impl Tally {
@@ -67,18 +83,37 @@ impl Tally {
     }
 
     // Is the tally better without a slot of survival s whose drafting costs `margin`?
-    pub fn without(self, s: f64, margin: f64, curve: &[f64], n: u32) -> Verdict
-        requires { ⌜ (1 < length (now curve)) × (length (now curve) ≤ 65) ⌝ }
-        requires { ⌜ Rated (verifyCost (now curve) n) self ⌝ }
-        ensures decided { λ r. ⌜ decisionOf r ≡ removalAt (verifyCost (now (curve .entry)) n) (sumsOf self) s margin ⌝ }
-        ensures rated { λ r. ⌜ StillRated (verifyCost (now (curve .entry)) n) r ⌝ }
+    pub fn without(
+        self,
+        s: f64,
+        margin: f64,
+        mode: PriceMode,
+        curve: &[f64],
+        spans: &[u8],
+        n: u32,
+    ) -> Verdict
+        requires { ⌜ Priced mode (now curve) (now spans) ⌝ }
+        requires { ⌜ Rated (priceBy mode (now curve) n) self ⌝ }
+        ensures decided { λ r. ⌜ decisionOf r ≡ removalUnder (ruleOf mode (now (curve .entry)) n) (sumsOf self) s margin ⌝ }
+        ensures rated { λ r. ⌜ StillRated (priceBy mode (now (curve .entry)) n) r ⌝ }
     {
-        let vp = verify_cost(curve, n, self.tokens - 1.0);
-        self.removal(s, margin, vp)
+        match mode {
+            PriceMode::Default => {
+                let vp = verify_cost(curve, n, self.tokens - 1.0);
+                self.removal(s, margin, vp)
+            }
+            PriceMode::Bridged => {
+                let vp = bridged_cost(curve, spans, n, self.tokens - 1.0);
+                if is_shut(mode, vp) {
+                    return Verdict::Pass;
+                }
+                self.removal(s, margin, vp)
+            }
+        }
     }
 
-    // The block gate, where `vn` is the price of one token more.
-    fn slot(self, s: f64, vn: f64) -> Verdict
+    // Is the tally better with a slot of survival s, where `vn` is the price of one token more?
+    pub fn slot(self, s: f64, vn: f64) -> Verdict
         ensures { λ r. ⌜ r ≡ addedAt self s vn ⌝ }
     {
         let seconds = vn + self.drafter;
@@ -97,16 +132,5 @@ impl Tally {
         } else {
             Verdict::Stop
         }
-    }
-
-    // Is the tally better with a slot of survival s?
-    pub fn with_slot(self, s: f64, curve: &[f64], n: u32) -> Verdict
-        requires { ⌜ (1 < length (now curve)) × (length (now curve) ≤ 65) ⌝ }
-        requires { ⌜ Rated (verifyCost (now curve) n) self ⌝ }
-        ensures decided { λ r. ⌜ decisionOf r ≡ slotAt (verifyCost (now (curve .entry)) n) (sumsOf self) s ⌝ }
-        ensures rated { λ r. ⌜ StillRated (verifyCost (now (curve .entry)) n) r ⌝ }
-    {
-        let vn = verify_cost(curve, n, self.tokens + 1.0);
-        self.slot(s, vn)
     }
 }

@@ -1,1 +1,3 @@
 pub mod Price
+pub mod Bridge
+pub mod Rule

@@ -16,7 +16,7 @@ room-refusal-requires c κs = search needs
 returns : tie.Need-returns
 returns c =
     let a = c .before .before .before .before .before .before .before .args in
-    block-early (now (a .chains)) (now (a .lengths)) (now (a .curve)) (a .gamma) (a .drafter) (a .rates) (now (a .loaded)) (now (a .widths)) (c .before .room-refusal .result) (c .before .room-refusal .ensures) (c .if1 .taken)
+    block-early (now (a .chains)) (now (a .lengths)) (now (a .curve)) (a .gamma) (a .drafter) (a .rates) (now (a .loaded)) (a .mode) (now (a .widths)) (c .before .room-refusal .result) (c .before .room-refusal .ensures) (c .if1 .taken)
 
 aggregate-depth-requires : tie.Need-aggregate-depth-requires
 aggregate-depth-requires c κs = search needs
@@ -61,7 +61,7 @@ gated-block-verify-requires c κs =
 returns-2 : tie.Need-returns-2
 returns-2 c =
     let a = c .before .before .before .before .before .before .before .before .before .before .before .args in
-    block-late (now (a .chains)) (now (a .lengths)) (now (a .curve)) (a .gamma) (a .drafter) (a .rates) (now (a .loaded)) (now (a .widths)) (c .before .before .before .before .before .room-refusal .result) (c .before .before .before .before .before .room-refusal .ensures) (c .before .before .before .before .if1 .left) _ (sym (c .before .number .given .1) ∙ c .before .before .before .aggregate-depth .ensures)
+    block-late (now (a .chains)) (now (a .lengths)) (now (a .curve)) (a .gamma) (a .drafter) (a .rates) (now (a .loaded)) (a .mode) (now (a .widths)) (c .before .before .before .before .before .room-refusal .result) (c .before .before .before .before .before .room-refusal .ensures) (c .before .before .before .before .if1 .left) _ (sym (c .before .number .given .1) ∙ c .before .before .before .aggregate-depth .ensures)
 
 same-length : tie.Need-same-length
 same-length c = search needs
@@ -70,7 +70,7 @@ returns-3 : tie.Need-returns-3
 returns-3 c =
     let a = c .before .before .before .before .before .before .before .before .before .before .before .before .before .before .before .before .args in
     let x = entered (now (a .chains)) (now (a .lengths)) (now (a .curve)) (a .gamma) (a .drafter) (a .rates) (now (a .loaded)) _ (sym (c .before .before .before .before .before .before .depth .given .1) ∙ c .before .before .before .before .before .before .before .before .aggregate-depth .ensures) in
-    block-weighed (now (a .chains)) (now (a .lengths)) (now (a .curve)) (a .gamma) (a .drafter) (a .rates) (now (a .loaded)) (now (a .widths)) (c .before .before .before .before .before .before .before .before .before .before .room-refusal .result) (c .before .before .before .before .before .before .before .before .before .before .room-refusal .ensures) (c .before .before .before .before .before .before .before .before .before .if1 .left) _ _ _ x (c .before .before .gated-block-verify .ensures)
+    block-weighed (now (a .chains)) (now (a .lengths)) (now (a .curve)) (a .gamma) (a .drafter) (a .rates) (now (a .loaded)) (a .mode) (now (a .widths)) (c .before .before .before .before .before .before .before .before .before .before .room-refusal .result) (c .before .before .before .before .before .before .before .before .before .before .room-refusal .ensures) (c .before .before .before .before .before .before .before .before .before .if1 .left) _ _ _ x (c .before .before .gated-block-verify .ensures)
 
 pub gated-block-verify-spec : {M : Type 1} → statement M
 gated-block-verify-spec =

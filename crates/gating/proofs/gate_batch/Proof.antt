@@ -26,7 +26,7 @@ same-length-2 c = search needs
 returns-2 : tie.Need-returns-2
 returns-2 c =
     let a = c .before .before .before .before .before .before .before .before .before .before .before .before .before .args in
-    c .before .before .gated-more .ensures ∙ ap (λ (own : Bool). gateOver own (a .settings .drafter) (a .ask .rates) (now (a .loaded)) (now (a .curve)) (a .ask .sequences) (a .gamma) (chainsBy (a .settings .model) (now (a .positions)) (now (a .signals)) (a .ask .depth) (now (a .indices)) (a .ask .sequences) (a .gamma)) (now (a .drafts))) (sym (c .before .before .before .before .if2 .taken))
+    c .before .before .gated-more .ensures ∙ ap (λ (own : Bool). gateOver own (a .settings .prices) (a .settings .drafter) (a .ask .rates) (now (a .loaded)) (now (a .curve)) (a .ask .sequences) (a .gamma) (chainsBy (a .settings .model) (now (a .positions)) (now (a .signals)) (a .ask .depth) (now (a .indices)) (a .ask .sequences) (a .gamma)) (now (a .drafts))) (sym (c .before .before .before .before .if2 .taken))
 
 gated-more-requires-2 : tie.Need-gated-more-requires-2
 gated-more-requires-2 c κs = search needs
@@ -37,7 +37,7 @@ same-length-3 c = search needs
 returns-3 : tie.Need-returns-3
 returns-3 c =
     let a = c .before .before .before .before .before .before .before .before .before .before .before .before .before .args in
-    c .before .before .gated-more2 .ensures ∙ ap (λ (own : Bool). gateOver own (a .settings .drafter) (a .ask .rates) (now (a .loaded)) (now (a .curve)) (a .ask .sequences) (a .gamma) (chainsBy (a .settings .model) (now (a .positions)) (now (a .signals)) (a .ask .depth) (now (a .indices)) (a .ask .sequences) (a .gamma)) (now (a .drafts))) (sym (c .before .before .before .before .if2 .left))
+    c .before .before .gated-more2 .ensures ∙ ap (λ (own : Bool). gateOver own (a .settings .prices) (a .settings .drafter) (a .ask .rates) (now (a .loaded)) (now (a .curve)) (a .ask .sequences) (a .gamma) (chainsBy (a .settings .model) (now (a .positions)) (now (a .signals)) (a .ask .depth) (now (a .indices)) (a .ask .sequences) (a .gamma)) (now (a .drafts))) (sym (c .before .before .before .before .if2 .left))
 
 pub gate-batch-spec : {M : Type 1} → statement M
 gate-batch-spec =

@@ -30,13 +30,13 @@ returns : tie.Need-returns
 returns c =
     let a = c .before .before .before .before .before .before .before .before .before .before .before .before .before .args in
     let pre = c .before .before .before .before .before .before .before .before .before .before .before .before .before .pre in
-    own-drafts (now (a .lengths)) (a .ask .sequences) (a .gamma) (pre .0 .0) (a .settings .drafter) (a .ask .rates) (now (a .loaded)) (now (a .curve)) (now (a .chains)) (pre .1 .2) _ _ (c .before .before .before .before .before .before .loaded-at .ensures) (c .before .before .before .before .before .gate-depth .ensures .0) (a .own) _ _ (now (a .drafts)) (c .before .before .before .before .if1 .taken) (c .before .before .gate .ensures)
+    own-drafts (now (a .lengths)) (a .ask .sequences) (a .gamma) (pre .0 .0) (a .settings .prices) (a .settings .drafter) (a .ask .rates) (now (a .loaded)) (now (a .curve)) (now (a .chains)) (pre .1 .2) _ _ (c .before .before .before .before .before .before .loaded-at .ensures) (c .before .before .before .before .before .gate-depth .ensures .0) (a .own) _ _ (now (a .drafts)) (c .before .before .before .before .if1 .taken) (c .before .before .gate .ensures)
 
 returns-2 : tie.Need-returns-2
 returns-2 c =
     let a = c .before .before .before .before .before .before .before .before .before .args in
     let pre = c .before .before .before .before .before .before .before .before .before .pre in
-    no-drafts (now (a .lengths)) (a .ask .sequences) (a .gamma) (pre .0 .0) (a .settings .drafter) (a .ask .rates) (now (a .loaded)) (now (a .curve)) (now (a .chains)) (pre .1 .2) _ _ (c .before .before .loaded-at .ensures) (c .before .gate-depth .ensures .0) (a .own) (now (a .drafts)) (c .if1 .left)
+    no-drafts (now (a .lengths)) (a .ask .sequences) (a .gamma) (pre .0 .0) (a .settings .prices) (a .settings .drafter) (a .ask .rates) (now (a .loaded)) (now (a .curve)) (now (a .chains)) (pre .1 .2) _ _ (c .before .before .loaded-at .ensures) (c .before .gate-depth .ensures .0) (a .own) (now (a .drafts)) (c .if1 .left)
 
 pub gate-laid-spec : {M : Type 1} → statement M
 gate-laid-spec =

@@ -56,7 +56,7 @@ returns c =
     let n = a .ask .sequences in
     let long = chains-long (a .settings .model) (now (a .positions)) (now (a .signals)) (a .ask .depth) (now (a .indices)) n (a .gamma) (pre .0 .shallow) (pre .0 .indexed) in
     let front = ap (take (n * 64)) (c .before .before .before .before .before .before .before .before .lay-chains .ensures) ∙ laid-front (now (a .chains)) _ (n * 64) long (pre .1 .2) in
-    c .before .before .gate-laid .ensures ∙ ap (λ (l : List Float). gateOver (a .own) (a .settings .drafter) (a .ask .rates) (now (a .loaded)) (now (a .curve)) n (a .gamma) l (now (a .drafts))) front
+    c .before .before .gate-laid .ensures ∙ ap (λ (l : List Float). gateOver (a .own) (a .settings .prices) (a .settings .drafter) (a .ask .rates) (now (a .loaded)) (now (a .curve)) n (a .gamma) l (now (a .drafts))) front
 
 pub gated-within-spec : {M : Type 1} → statement M
 gated-within-spec =

@@ -4,10 +4,10 @@ use Rattle.block.proofs.weighing.verify_block.Statement.{statement}
 use Rattle.block.proofs.weighing.verify_block.Tie as tie
 
 verify-few-requires : tie.Need-verify-few-requires
-verify-few-requires c κs = ((c .before .before .before .before .before .before .pre .0, c .before .if1 .taken), c .before .before .before .before .before .before .pre .1)
+verify-few-requires c κs = ((c .before .before .before .before .before .before .before .pre .0, c .before .if1 .taken), c .before .before .before .before .before .before .before .pre .1)
 
 verify-many-requires : tie.Need-verify-many-requires
-verify-many-requires c κs = c .before .before .before .before .before .before .pre
+verify-many-requires c κs = c .before .before .before .before .before .before .before .pre
 
 same-length : tie.Need-same-length
 same-length c = search needs

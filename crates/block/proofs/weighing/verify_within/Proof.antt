@@ -2,7 +2,7 @@
 use native.Mathlib.Omega.{arith}
 use lib.ListN.{length}
 use denote.Ref.{now}
-use Rattle.verify_prices.specs.Price.{verifyCost}
+use Rattle.verify_prices.specs.Rule.{priceBy}
 use Rattle.block.proofs.Whole.{block-started}
 use borrow.Author.Needs.{needs}
 use Rattle.block.proofs.weighing.verify_within.Statement.{statement}
@@ -16,7 +16,7 @@ fill-requires c κs = search needs
 
 heapify-requires : tie.Need-heapify-requires
 heapify-requires c κs =
-    let room = c .before .before .before .before .before .before .before .before .before .before .before .before .before .before .before .pre .1 .1 .0 in
+    let room = c .before .before .before .before .before .before .before .before .before .before .before .before .before .before .before .before .pre .1 .1 .0 in
     (omega (arith, c .before .before .before .before .before .before .fill .ensures .0, c .before .before .before .before .before .before .fill .kept .1 .1 .1 .0, room), omega (arith, c .before .before .before .before .before .before .fill .ensures .0, c .before .before .before .before .before .before .fill .kept .1 .1 .1 .1 .0, room))
 
 int-to-float-starting : tie.Need-int-to-float-starting
@@ -30,7 +30,7 @@ starting-requires c κs = search needs
 
 weigh-all-requires : tie.Need-weigh-all-requires
 weigh-all-requires c κs =
-    let pre = c .before .before .before .before .before .before .before .before .before .before .before .before .before .before .before .before .before .before .before .before .before .before .before .before .before .before .pre in
+    let pre = c .before .before .before .before .before .before .before .before .before .before .before .before .before .before .before .before .before .before .before .before .before .before .before .before .before .before .before .pre in
     let room = pre .1 .1 .0 in (
       pre .0,
       (
@@ -60,8 +60,8 @@ same-length-3 c = search needs
 
 returns : tie.Need-returns
 returns c =
-    let a = c .before .before .before .before .before .before .before .before .before .before .before .before .before .before .before .before .before .before .before .before .before .before .before .before .before .before .before .before .before .before .before .before .before .args in
-    block-started (verifyCost (now (a .curve)) (length (now (a .lengths)))) (now (a .chains)) (a .depth) (a .draft) (now (a .lengths)) _ _ (c .before .before .before .before .before .before .before .before .before .before .starting .ensures .0) (c .before .before .before .before .before .before .weigh-all .ensures)
+    let a = c .before .before .before .before .before .before .before .before .before .before .before .before .before .before .before .before .before .before .before .before .before .before .before .before .before .before .before .before .before .before .before .before .before .before .args in
+    block-started (priceBy (a .mode) (now (a .curve)) (length (now (a .lengths)))) (now (a .chains)) (a .depth) (a .draft) (now (a .lengths)) _ _ (c .before .before .before .before .before .before .before .before .before .before .starting .ensures .0) (c .before .before .before .before .before .before .weigh-all .ensures)
 
 pub verify-within-spec : {M : Type 1} → statement M
 verify-within-spec =

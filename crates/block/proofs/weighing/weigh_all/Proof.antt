@@ -9,7 +9,7 @@ use lib.ListN.{length, getD, drop, length-replicate}
 use denote.Ref.{now}
 use Rattle.heap.specs.Greedy.{headOf, takes}
 use Rattle.heap.proofs.Turns.{going-done, going-stops, going-leaves, going-takes}
-use Rattle.verify_prices.specs.Price.{verifyCost}
+use Rattle.verify_prices.specs.Rule.{priceBy}
 use Rattle.verdict.specs.Tallies.{sumsOf, decisionOf, Rated}
 use Rattle.verdict.specs.declared.inner.Tally.{Tally}
 use Rattle.verdict.specs.declared.inner.Verdict.{Verdict}
@@ -28,12 +28,12 @@ abbrev stateOf : Tally → List ℕ → State
 stateOf tally widths = record { sums = sumsOf tally; widths = widths }
 
 abbrev Inv-loop : tie.InvT-loop
-Inv-loop chains lengths depth curve n first rank₀ seq₀ widths₀ live₀ weighed₀ tally₀ rank seq widths live weighed tally =
-    Growing (verifyCost curve n) chains (starts depth lengths) n (sumsOf tally₀) rank₀ seq₀ rank seq (stateOf tally widths) live weighed
-    × Rated (verifyCost curve n) tally
+Inv-loop chains lengths depth mode curve spans n first rank₀ seq₀ widths₀ live₀ weighed₀ tally₀ rank seq widths live weighed tally =
+    Growing (priceBy mode curve n) chains (starts depth lengths) n (sumsOf tally₀) rank₀ seq₀ rank seq (stateOf tally widths) live weighed
+    × Rated (priceBy mode curve n) tally
 
 abbrev μ-loop : tie.MeasureT-loop
-μ-loop chains lengths depth curve n first rank₀ seq₀ widths₀ live₀ weighed₀ tally₀ rank seq widths live weighed tally = n * 64 - weighed
+μ-loop chains lengths depth mode curve spans n first rank₀ seq₀ widths₀ live₀ weighed₀ tally₀ rank seq widths live weighed tally = n * 64 - weighed
 
 -- the slot that was found is the head of what is left
 
@@ -45,22 +45,22 @@ head depth lengths c k w t l e =
 
 loop-holds : tie.Need-loop-holds Inv-loop μ-loop
 loop-holds c =
-    let a = c .before .before .before .before .before .before .args in
-    let pre = c .before .before .before .before .before .before .pre in (
+    let a = c .before .before .before .before .before .before .before .args in
+    let pre = c .before .before .before .before .before .before .before .pre in (
       rw (pre .1 .1 .1 .0)
-          (growing-starts (verifyCost (now (c .before .before .before .before .before .before .args .curve)) (c .before .before .before .before .before .before .args .n)) (now (a .chains)) (now (a .lengths)) (a .depth) (a .n) (sumsOf (a .start))
+          (growing-starts (priceBy (c .before .before .before .before .before .before .before .args .mode) (now (c .before .before .before .before .before .before .before .args .curve)) (c .before .before .before .before .before .before .before .args .n)) (now (a .chains)) (now (a .lengths)) (a .depth) (a .n) (sumsOf (a .start))
           (now (a .rank)) (now (a .seq)) (a .first) (pre .0 .count) (pre .1 .1 .0 .2) (pre .1 .1 .1 .1 .0)),
       pre .1 .1 .1 .1 .1,
     )
 
 slice-read-k : tie.Need-slice-read-k Inv-loop μ-loop
-slice-read-k c = omega (arith, c .before .before .loop .inv .0 .seqs-kept, c .before .before .before .before .before .before .before .before .before .pre .1 .1 .0, live-few (fits-sized upTo up-short (fits-starts (c .before .before .before .before .before .before .before .before .before .args .depth) (c .before .before .before .before .before .before .before .before .before .pre .0))) (c .before .before .loop .inv .0), c .before .loop-test .taken)
+slice-read-k c = omega (arith, c .before .before .loop .inv .0 .seqs-kept, c .before .before .before .before .before .before .before .before .before .before .pre .1 .1 .0, live-few (fits-sized upTo up-short (fits-starts (c .before .before .before .before .before .before .before .before .before .before .args .depth) (c .before .before .before .before .before .before .before .before .before .before .pre .0))) (c .before .before .loop .inv .0), c .before .loop-test .taken)
 
 add-weighed : tie.Need-add-weighed Inv-loop μ-loop
-add-weighed c = omega (arith, weighed-room (fits-sized upTo up-short (fits-starts (c .before .before .before .before .before .before .before .before .before .args .depth) (c .before .before .before .before .before .before .before .before .before .pre .0))) (c .before .before .loop .inv .0) (c .before .loop-test .taken), c .before .before .before .before .before .before .before .before .before .pre .0 .few)
+add-weighed c = omega (arith, weighed-room (fits-sized upTo up-short (fits-starts (c .before .before .before .before .before .before .before .before .before .before .args .depth) (c .before .before .before .before .before .before .before .before .before .before .pre .0))) (c .before .before .loop .inv .0) (c .before .loop-test .taken), c .before .before .before .before .before .before .before .before .before .before .pre .0 .few)
 
 weigh-requires : tie.Need-weigh-requires Inv-loop μ-loop
-weigh-requires c κs = (top-room (c .before .before .before .before .before .before .before .before .before .before .args .depth) (c .before .before .before .before .before .before .before .before .before .before .pre .0) (fits-sized upTo up-short (fits-starts (c .before .before .before .before .before .before .before .before .before .before .args .depth) (c .before .before .before .before .before .before .before .before .before .before .pre .0))) (c .before .before .before .loop .inv .0) (c .before .before .loop-test .taken), (c .before .before .before .before .before .before .before .before .before .before .pre .1 .0, c .before .before .before .loop .inv .1))
+weigh-requires c κs = (top-room (c .before .before .before .before .before .before .before .before .before .before .before .args .depth) (c .before .before .before .before .before .before .before .before .before .before .before .pre .0) (fits-sized upTo up-short (fits-starts (c .before .before .before .before .before .before .before .before .before .before .before .args .depth) (c .before .before .before .before .before .before .before .before .before .before .before .pre .0))) (c .before .before .before .loop .inv .0) (c .before .before .loop-test .taken), (c .before .before .before .before .before .before .before .before .before .before .before .pre .1 .0, c .before .before .before .loop .inv .1))
 
 enum-told : tie.Need-enum-told Inv-loop μ-loop
 enum-told c = search needs
@@ -72,70 +72,70 @@ same-length-2 : tie.Need-same-length-2 Inv-loop μ-loop
 same-length-2 c = search needs
 
 same-length-3 : tie.Need-same-length-3 Inv-loop μ-loop
-same-length-3 c = omega (arith, widths-count (fits-sized upTo up-short (fits-starts (c .before .before .before .before .before .before .before .before .before .before .before .before .before .args .depth) (c .before .before .before .before .before .before .before .before .before .before .before .before .before .pre .0))) (c .before .before .before .before .before .before .loop .inv .0), ap length (c .before .before .before .before .before .before .before .before .before .before .before .before .before .pre .1 .1 .1 .0), length-replicate {A = ℕ} (c .before .before .before .before .before .before .before .before .before .before .before .before .before .args .n) 0)
+same-length-3 c = omega (arith, widths-count (fits-sized upTo up-short (fits-starts (c .before .before .before .before .before .before .before .before .before .before .before .before .before .before .args .depth) (c .before .before .before .before .before .before .before .before .before .before .before .before .before .before .pre .0))) (c .before .before .before .before .before .before .loop .inv .0), ap length (c .before .before .before .before .before .before .before .before .before .before .before .before .before .before .pre .1 .1 .1 .0), length-replicate {A = ℕ} (c .before .before .before .before .before .before .before .before .before .before .before .before .before .before .args .n) 0)
 
 returns : tie.Need-returns Inv-loop μ-loop
 unfolding blockFrom
 returns c =
-    let a = c .before .before .before .before .before .before .before .before .before .before .before .before .before .args in
+    let a = c .before .before .before .before .before .before .before .before .before .before .before .before .before .before .args in
     let at = c .before .before .before .before .before .before .loop in
     let k = getD (at .seq) 0 0 in
     let state = stateOf (at .tally) (at .widths) in
-    let same = slot-judged (verifyCost (now (c .before .before .before .before .before .before .before .before .before .before .before .before .before .args .curve)) (c .before .before .before .before .before .before .before .before .before .before .before .before .before .args .n)) (now (a .chains)) state k (getD (at .rank) 0 0) _ (c .before .before .weigh .ensures .0) in
+    let same = slot-judged (priceBy (c .before .before .before .before .before .before .before .before .before .before .before .before .before .before .args .mode) (now (c .before .before .before .before .before .before .before .before .before .before .before .before .before .before .args .curve)) (c .before .before .before .before .before .before .before .before .before .before .before .before .before .before .args .n)) (now (a .chains)) state k (getD (at .rank) 0 0) _ (c .before .before .weigh .ensures .0) in
     let e = same ∙ ap (λ (v : Verdict). judged state k (getD (at .widths) k 0 + 1) (decisionOf v)) (c .enum-told .given .1) in
-    rw (c .before .before .before .before .before .before .before .before .before .before .before .before .before .pre .0 .count) (sym (ap chosenBy (going-stops (at .inv .0) (c .before .before .before .before .before .loop-test .taken) (few (fits-sized upTo up-short (fits-starts (c .before .before .before .before .before .before .before .before .before .before .before .before .before .args .depth) (c .before .before .before .before .before .before .before .before .before .before .before .before .before .pre .0))) (at .inv .0)) e)))
+    rw (c .before .before .before .before .before .before .before .before .before .before .before .before .before .before .pre .0 .count) (sym (ap chosenBy (going-stops (at .inv .0) (c .before .before .before .before .before .loop-test .taken) (few (fits-sized upTo up-short (fits-starts (c .before .before .before .before .before .before .before .before .before .before .before .before .before .before .args .depth) (c .before .before .before .before .before .before .before .before .before .before .before .before .before .before .pre .0))) (at .inv .0)) e)))
 
 enum-told-2 : tie.Need-enum-told-2 Inv-loop μ-loop
 enum-told-2 c = search needs
 
 settle-requires : tie.Need-settle-requires Inv-loop μ-loop
-settle-requires c κs = (omega (arith, c .before .before .before .before .before .before .before .before .loop .inv .0 .ranks-kept, c .before .before .before .before .before .before .before .before .loop .inv .0 .seqs-kept, live-few (fits-sized upTo up-short (fits-starts (c .before .before .before .before .before .before .before .before .before .before .before .before .before .before .before .args .depth) (c .before .before .before .before .before .before .before .before .before .before .before .before .before .before .before .pre .0))) (c .before .before .before .before .before .before .before .before .loop .inv .0), c .before .before .before .before .before .before .before .before .before .before .before .before .before .before .before .pre .1 .1 .0), c .before .before .before .before .before .before .before .before .loop .inv .0 .in-step .holds .order)
+settle-requires c κs = (omega (arith, c .before .before .before .before .before .before .before .before .loop .inv .0 .ranks-kept, c .before .before .before .before .before .before .before .before .loop .inv .0 .seqs-kept, live-few (fits-sized upTo up-short (fits-starts (c .before .before .before .before .before .before .before .before .before .before .before .before .before .before .before .before .args .depth) (c .before .before .before .before .before .before .before .before .before .before .before .before .before .before .before .before .pre .0))) (c .before .before .before .before .before .before .before .before .loop .inv .0), c .before .before .before .before .before .before .before .before .before .before .before .before .before .before .before .before .pre .1 .1 .0), c .before .before .before .before .before .before .before .before .loop .inv .0 .in-step .holds .order)
 
 loop-less : tie.Need-loop-less Inv-loop μ-loop
-loop-less c = omega (arith, weighed-room (fits-sized upTo up-short (fits-starts (c .before .before .before .before .before .before .before .before .before .before .before .before .before .before .before .before .before .before .before .before .args .depth) (c .before .before .before .before .before .before .before .before .before .before .before .before .before .before .before .before .before .before .before .before .pre .0))) (c .before .before .before .before .before .before .before .before .before .before .before .before .before .loop .inv .0) (c .before .before .before .before .before .before .before .before .before .before .before .before .loop-test .taken))
+loop-less c = omega (arith, weighed-room (fits-sized upTo up-short (fits-starts (c .before .before .before .before .before .before .before .before .before .before .before .before .before .before .before .before .before .before .before .before .before .args .depth) (c .before .before .before .before .before .before .before .before .before .before .before .before .before .before .before .before .before .before .before .before .before .pre .0))) (c .before .before .before .before .before .before .before .before .before .before .before .before .before .loop .inv .0) (c .before .before .before .before .before .before .before .before .before .before .before .before .loop-test .taken))
 
 loop-again : tie.Need-loop-again Inv-loop μ-loop
 loop-again c =
-    let a = c .before .before .before .before .before .before .before .before .before .before .before .before .before .before .before .before .before .before .before .before .args in
+    let a = c .before .before .before .before .before .before .before .before .before .before .before .before .before .before .before .before .before .before .before .before .before .args in
     let at = c .before .before .before .before .before .before .before .before .before .before .before .before .before .loop in
     let k = getD (at .seq) 0 0 in
     let state = stateOf (at .tally) (at .widths) in
-    let same = slot-judged (verifyCost (now (c .before .before .before .before .before .before .before .before .before .before .before .before .before .before .before .before .before .before .before .before .args .curve)) (c .before .before .before .before .before .before .before .before .before .before .before .before .before .before .before .before .before .before .before .before .args .n)) (now (a .chains)) state k (getD (at .rank) 0 0) _ (c .before .before .before .before .before .before .before .before .before .weigh .ensures .0) in
+    let same = slot-judged (priceBy (c .before .before .before .before .before .before .before .before .before .before .before .before .before .before .before .before .before .before .before .before .before .args .mode) (now (c .before .before .before .before .before .before .before .before .before .before .before .before .before .before .before .before .before .before .before .before .before .args .curve)) (c .before .before .before .before .before .before .before .before .before .before .before .before .before .before .before .before .before .before .before .before .before .args .n)) (now (a .chains)) state k (getD (at .rank) 0 0) _ (c .before .before .before .before .before .before .before .before .before .weigh .ensures .0) in
     let e = same ∙ ap (λ (v : Verdict). judged state k (getD (at .widths) k 0 + 1) (decisionOf v)) (c .before .before .before .before .before .before .before .enum-told2 .given .1) in
-    (going-leaves (at .inv .0) (c .before .before .before .before .before .before .before .before .before .before .before .before .loop-test .taken) (few (fits-sized upTo up-short (fits-starts (c .before .before .before .before .before .before .before .before .before .before .before .before .before .before .before .before .before .before .before .before .args .depth) (c .before .before .before .before .before .before .before .before .before .before .before .before .before .before .before .before .before .before .before .before .pre .0))) (at .inv .0)) (c .before .before .before .before .settle .kept .0) (c .before .before .before .before .settle .kept .1 .0) e refl (c .before .before .before .before .settle .ensures), at .inv .1)
+    (going-leaves (at .inv .0) (c .before .before .before .before .before .before .before .before .before .before .before .before .loop-test .taken) (few (fits-sized upTo up-short (fits-starts (c .before .before .before .before .before .before .before .before .before .before .before .before .before .before .before .before .before .before .before .before .before .args .depth) (c .before .before .before .before .before .before .before .before .before .before .before .before .before .before .before .before .before .before .before .before .before .pre .0))) (at .inv .0)) (c .before .before .before .before .settle .kept .0) (c .before .before .before .before .settle .kept .1 .0) e refl (c .before .before .before .before .settle .ensures), at .inv .1)
 
 enum-known-verdict : tie.Need-enum-known-verdict Inv-loop μ-loop
 enum-known-verdict c = search needs
 
 grow-requires : tie.Need-grow-requires Inv-loop μ-loop
 grow-requires c κs =
-    let t = top-room (c .before .before .before .before .before .before .before .before .before .before .before .before .before .before .before .args .depth) (c .before .before .before .before .before .before .before .before .before .before .before .before .before .before .before .pre .0) (fits-sized upTo up-short (fits-starts (c .before .before .before .before .before .before .before .before .before .before .before .before .before .before .before .args .depth) (c .before .before .before .before .before .before .before .before .before .before .before .before .before .before .before .pre .0))) (c .before .before .before .before .before .before .before .before .loop .inv .0) (c .before .before .before .before .before .before .before .loop-test .taken) in
+    let t = top-room (c .before .before .before .before .before .before .before .before .before .before .before .before .before .before .before .before .args .depth) (c .before .before .before .before .before .before .before .before .before .before .before .before .before .before .before .before .pre .0) (fits-sized upTo up-short (fits-starts (c .before .before .before .before .before .before .before .before .before .before .before .before .before .before .before .before .args .depth) (c .before .before .before .before .before .before .before .before .before .before .before .before .before .before .before .before .pre .0))) (c .before .before .before .before .before .before .before .before .loop .inv .0) (c .before .before .before .before .before .before .before .loop-test .taken) in
     (t .1, t .2)
 
 slot-at-requires : tie.Need-slot-at-requires Inv-loop μ-loop
 slot-at-requires c κs =
-    (rw (sym (c .before .before .before .before .before .before .before .before .before .before .before .before .before .before .before .before .before .before .pre .0 .count)) at (c .before .before .before .before .before .before .before .before .before .before .before .before .before .before .before .before .before .before .pre .0), omega (arith, k-low (fits-sized upTo up-short (fits-starts (c .before .before .before .before .before .before .before .before .before .before .before .before .before .before .before .before .before .before .args .depth) (c .before .before .before .before .before .before .before .before .before .before .before .before .before .before .before .before .before .before .pre .0))) (c .before .before .before .before .before .before .before .before .before .before .before .loop .inv .0) (c .before .before .before .before .before .before .before .before .before .before .loop-test .taken), c .before .before .before .before .before .before .before .before .before .before .before .before .before .before .before .before .before .before .pre .0 .count))
+    (rw (sym (c .before .before .before .before .before .before .before .before .before .before .before .before .before .before .before .before .before .before .before .pre .0 .count)) at (c .before .before .before .before .before .before .before .before .before .before .before .before .before .before .before .before .before .before .before .pre .0), omega (arith, k-low (fits-sized upTo up-short (fits-starts (c .before .before .before .before .before .before .before .before .before .before .before .before .before .before .before .before .before .before .before .args .depth) (c .before .before .before .before .before .before .before .before .before .before .before .before .before .before .before .before .before .before .before .pre .0))) (c .before .before .before .before .before .before .before .before .before .before .before .loop .inv .0) (c .before .before .before .before .before .before .before .before .before .before .loop-test .taken), c .before .before .before .before .before .before .before .before .before .before .before .before .before .before .before .before .before .before .before .pre .0 .count))
 
 settle-requires-2 : tie.Need-settle-requires-2 Inv-loop μ-loop
-settle-requires-2 c κs = (omega (arith, c .before .before .before .before .before .before .before .before .before .before .before .before .before .before .loop .inv .0 .ranks-kept, c .before .before .before .before .before .before .before .before .before .before .before .before .before .before .loop .inv .0 .seqs-kept, live-few (fits-sized upTo up-short (fits-starts (c .before .before .before .before .before .before .before .before .before .before .before .before .before .before .before .before .before .before .before .before .before .args .depth) (c .before .before .before .before .before .before .before .before .before .before .before .before .before .before .before .before .before .before .before .before .before .pre .0))) (c .before .before .before .before .before .before .before .before .before .before .before .before .before .before .loop .inv .0), c .before .before .before .before .before .before .before .before .before .before .before .before .before .before .before .before .before .before .before .before .before .pre .1 .1 .0), c .before .before .before .before .before .before .before .before .before .before .before .before .before .before .loop .inv .0 .in-step .holds .order)
+settle-requires-2 c κs = (omega (arith, c .before .before .before .before .before .before .before .before .before .before .before .before .before .before .loop .inv .0 .ranks-kept, c .before .before .before .before .before .before .before .before .before .before .before .before .before .before .loop .inv .0 .seqs-kept, live-few (fits-sized upTo up-short (fits-starts (c .before .before .before .before .before .before .before .before .before .before .before .before .before .before .before .before .before .before .before .before .before .before .args .depth) (c .before .before .before .before .before .before .before .before .before .before .before .before .before .before .before .before .before .before .before .before .before .before .pre .0))) (c .before .before .before .before .before .before .before .before .before .before .before .before .before .before .loop .inv .0), c .before .before .before .before .before .before .before .before .before .before .before .before .before .before .before .before .before .before .before .before .before .before .pre .1 .1 .0), c .before .before .before .before .before .before .before .before .before .before .before .before .before .before .loop .inv .0 .in-step .holds .order)
 
 loop-less-2 : tie.Need-loop-less-2 Inv-loop μ-loop
-loop-less-2 c = omega (arith, weighed-room (fits-sized upTo up-short (fits-starts (c .before .before .before .before .before .before .before .before .before .before .before .before .before .before .before .before .before .before .before .before .before .before .before .before .before .before .args .depth) (c .before .before .before .before .before .before .before .before .before .before .before .before .before .before .before .before .before .before .before .before .before .before .before .before .before .before .pre .0))) (c .before .before .before .before .before .before .before .before .before .before .before .before .before .before .before .before .before .before .before .loop .inv .0) (c .before .before .before .before .before .before .before .before .before .before .before .before .before .before .before .before .before .before .loop-test .taken))
+loop-less-2 c = omega (arith, weighed-room (fits-sized upTo up-short (fits-starts (c .before .before .before .before .before .before .before .before .before .before .before .before .before .before .before .before .before .before .before .before .before .before .before .before .before .before .before .args .depth) (c .before .before .before .before .before .before .before .before .before .before .before .before .before .before .before .before .before .before .before .before .before .before .before .before .before .before .before .pre .0))) (c .before .before .before .before .before .before .before .before .before .before .before .before .before .before .before .before .before .before .before .loop .inv .0) (c .before .before .before .before .before .before .before .before .before .before .before .before .before .before .before .before .before .before .loop-test .taken))
 
 loop-again-2 : tie.Need-loop-again-2 Inv-loop μ-loop
 loop-again-2 c =
-    let a = c .before .before .before .before .before .before .before .before .before .before .before .before .before .before .before .before .before .before .before .before .before .before .before .before .before .before .args in
+    let a = c .before .before .before .before .before .before .before .before .before .before .before .before .before .before .before .before .before .before .before .before .before .before .before .before .before .before .before .args in
     let at = c .before .before .before .before .before .before .before .before .before .before .before .before .before .before .before .before .before .before .before .loop in
     let k = getD (at .seq) 0 0 in
     let state = stateOf (at .tally) (at .widths) in
-    let same = slot-judged (verifyCost (now (c .before .before .before .before .before .before .before .before .before .before .before .before .before .before .before .before .before .before .before .before .before .before .before .before .before .before .args .curve)) (c .before .before .before .before .before .before .before .before .before .before .before .before .before .before .before .before .before .before .before .before .before .before .before .before .before .before .args .n)) (now (a .chains)) state k (getD (at .rank) 0 0) _ (c .before .before .before .before .before .before .before .before .before .before .before .before .before .before .before .weigh .ensures .0) in
+    let same = slot-judged (priceBy (c .before .before .before .before .before .before .before .before .before .before .before .before .before .before .before .before .before .before .before .before .before .before .before .before .before .before .before .args .mode) (now (c .before .before .before .before .before .before .before .before .before .before .before .before .before .before .before .before .before .before .before .before .before .before .before .before .before .before .before .args .curve)) (c .before .before .before .before .before .before .before .before .before .before .before .before .before .before .before .before .before .before .before .before .before .before .before .before .before .before .before .args .n)) (now (a .chains)) state k (getD (at .rank) 0 0) _ (c .before .before .before .before .before .before .before .before .before .before .before .before .before .before .before .weigh .ensures .0) in
     let t = getD (at .widths) k 0 + 1 in
-    let low = k-low (fits-sized upTo up-short (fits-starts (c .before .before .before .before .before .before .before .before .before .before .before .before .before .before .before .before .before .before .before .before .before .before .before .before .before .before .args .depth) (c .before .before .before .before .before .before .before .before .before .before .before .before .before .before .before .before .before .before .before .before .before .before .before .before .before .before .pre .0))) (at .inv .0) (c .before .before .before .before .before .before .before .before .before .before .before .before .before .before .before .before .before .before .loop-test .taken) in
+    let low = k-low (fits-sized upTo up-short (fits-starts (c .before .before .before .before .before .before .before .before .before .before .before .before .before .before .before .before .before .before .before .before .before .before .before .before .before .before .before .args .depth) (c .before .before .before .before .before .before .before .before .before .before .before .before .before .before .before .before .before .before .before .before .before .before .before .before .before .before .before .pre .0))) (at .inv .0) (c .before .before .before .before .before .before .before .before .before .before .before .before .before .before .before .before .before .before .loop-test .taken) in
     let e = same ∙ ap (λ (v : Verdict). judged state k t (decisionOf v)) (c .before .before .before .before .before .before .before .before .before .before .before .before .before .verdict .given .1) ∙ ap (λ (l : List ℕ). takes (stateOf (c .before .before .before .before .before .before .before .before .before .before .before .before .before .verdict .given .0 .0) l)) (sym (c .before .before .before .before .before .before .before .before .before .before .grow .ensures .1)) in (
-      going-takes (at .inv .0) (c .before .before .before .before .before .before .before .before .before .before .before .before .before .before .before .before .before .before .loop-test .taken) (few (fits-sized upTo up-short (fits-starts (c .before .before .before .before .before .before .before .before .before .before .before .before .before .before .before .before .before .before .before .before .before .before .before .before .before .before .args .depth) (c .before .before .before .before .before .before .before .before .before .before .before .before .before .before .before .before .before .before .before .before .before .before .before .before .before .before .pre .0))) (at .inv .0)) (c .before .before .before .before .settle2 .kept .0) (c .before .before .before .before .settle2 .kept .1 .0) t e (c .before .before .before .before .before .before .before .before .before .before .grow .ensures .1)
+      going-takes (at .inv .0) (c .before .before .before .before .before .before .before .before .before .before .before .before .before .before .before .before .before .before .loop-test .taken) (few (fits-sized upTo up-short (fits-starts (c .before .before .before .before .before .before .before .before .before .before .before .before .before .before .before .before .before .before .before .before .before .before .before .before .before .before .before .args .depth) (c .before .before .before .before .before .before .before .before .before .before .before .before .before .before .before .before .before .before .before .before .before .before .before .before .before .before .before .pre .0))) (at .inv .0)) (c .before .before .before .before .settle2 .kept .0) (c .before .before .before .before .settle2 .kept .1 .0) t e (c .before .before .before .before .before .before .before .before .before .before .grow .ensures .1)
           (growing (starts (a .depth) (now (a .lengths))) (now (a .chains)) k (getD (at .widths) k 0))
-          (c .before .before .before .before .before .before .before .slot-at .ensures ∙ head (a .depth) (now (a .lengths)) (now (a .chains)) k _ (getD (at .widths) k 0) (omega (arith, low, c .before .before .before .before .before .before .before .before .before .before .before .before .before .before .before .before .before .before .before .before .before .before .before .before .before .before .pre .0 .count)) (c .before .before .before .before .before .before .before .before .before .before .grow .ensures .0)) (c .before .before .before .before .settle2 .ensures),
-      take-rated (verifyCost (now (c .before .before .before .before .before .before .before .before .before .before .before .before .before .before .before .before .before .before .before .before .before .before .before .before .before .before .args .curve)) (c .before .before .before .before .before .before .before .before .before .before .before .before .before .before .before .before .before .before .before .before .before .before .before .before .before .before .args .n)) _ _ (c .before .before .before .before .before .before .before .before .before .before .before .before .before .verdict .given .1) (c .before .before .before .before .before .before .before .before .before .before .before .before .before .before .before .weigh .ensures .1),
+          (c .before .before .before .before .before .before .before .slot-at .ensures ∙ head (a .depth) (now (a .lengths)) (now (a .chains)) k _ (getD (at .widths) k 0) (omega (arith, low, c .before .before .before .before .before .before .before .before .before .before .before .before .before .before .before .before .before .before .before .before .before .before .before .before .before .before .before .pre .0 .count)) (c .before .before .before .before .before .before .before .before .before .before .grow .ensures .0)) (c .before .before .before .before .settle2 .ensures),
+      take-rated (priceBy (c .before .before .before .before .before .before .before .before .before .before .before .before .before .before .before .before .before .before .before .before .before .before .before .before .before .before .before .args .mode) (now (c .before .before .before .before .before .before .before .before .before .before .before .before .before .before .before .before .before .before .before .before .before .before .before .before .before .before .before .args .curve)) (c .before .before .before .before .before .before .before .before .before .before .before .before .before .before .before .before .before .before .before .before .before .before .before .before .before .before .before .args .n)) _ _ (c .before .before .before .before .before .before .before .before .before .before .before .before .before .verdict .given .1) (c .before .before .before .before .before .before .before .before .before .before .before .before .before .before .before .weigh .ensures .1),
     )
 
 same-length-4 : tie.Need-same-length-4 Inv-loop μ-loop
@@ -145,12 +145,12 @@ same-length-5 : tie.Need-same-length-5 Inv-loop μ-loop
 same-length-5 c = search needs
 
 same-length-6 : tie.Need-same-length-6 Inv-loop μ-loop
-same-length-6 c = omega (arith, widths-count (fits-sized upTo up-short (fits-starts (c .before .before .before .before .before .before .before .before .args .depth) (c .before .before .before .before .before .before .before .before .pre .0))) (c .before .loop .inv .0), ap length (c .before .before .before .before .before .before .before .before .pre .1 .1 .1 .0), length-replicate {A = ℕ} (c .before .before .before .before .before .before .before .before .args .n) 0)
+same-length-6 c = omega (arith, widths-count (fits-sized upTo up-short (fits-starts (c .before .before .before .before .before .before .before .before .before .args .depth) (c .before .before .before .before .before .before .before .before .before .pre .0))) (c .before .loop .inv .0), ap length (c .before .before .before .before .before .before .before .before .before .pre .1 .1 .1 .0), length-replicate {A = ℕ} (c .before .before .before .before .before .before .before .before .before .args .n) 0)
 
 returns-2 : tie.Need-returns-2 Inv-loop μ-loop
 unfolding blockFrom
 returns-2 c =
-    let count = c .before .before .before .before .before .before .before .before .pre .0 .count in
+    let count = c .before .before .before .before .before .before .before .before .before .pre .0 .count in
     rw count (sym (ap chosenBy (going-done (c .before .loop .inv .0) (omega arith))))
 
 pub weigh-all-spec : {M : Type 1} → statement M

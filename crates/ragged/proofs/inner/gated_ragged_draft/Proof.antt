@@ -1,7 +1,7 @@
 -- `inner::gated_ragged_draft` meets its contract, by those of the functions that it calls. Assumes nothing.
 use native.Mathlib.Omega.{arith}
 use denote.Ref.{now}
-use Rattle.verify_prices.specs.Price.{verifyCost}
+use Rattle.verify_prices.specs.Rule.{ruleOf}
 use Rattle.ragged.proofs.Whole.{ragged-none, ragged-some, ragged-fits}
 use borrow.Author.Needs.{needs}
 use Rattle.ragged.proofs.inner.gated_ragged_draft.Statement.{statement}
@@ -16,10 +16,10 @@ same-length c = search needs
 returns : tie.Need-returns
 returns c =
     let a = c .before .before .before .before .before .before .before .before .before .before .args in
-    ragged-none (verifyCost (now (a .curve))) (now (a .chains)) (now (a .lengths)) (a .depth) (a .kind) (a .rates) (now (a .loaded)) _ (c .before .before .before .start-widths .ensures) (c .if1 .taken)
+    ragged-none (ruleOf (a .mode) (now (a .curve))) (now (a .chains)) (now (a .lengths)) (a .depth) (a .kind) (a .rates) (now (a .loaded)) _ (c .before .before .before .start-widths .ensures) (c .if1 .taken)
 
-trim-requires : tie.Need-trim-requires
-trim-requires c κs =
+trim-by-requires : tie.Need-trim-by-requires
+trim-by-requires c κs =
     let pre = c .before .before .before .before .before .before .before .before .before .before .before .pre in
     let fits = ragged-fits _ (pre .0) (c .before .before .before .before .start-widths .ensures) in
     (fits .0, ((fits .1, omega (arith, pre .1 .0)), (omega (arith, c .before .if1 .left, pre .1 .0), pre .1 .0 .1)))
@@ -30,7 +30,7 @@ same-length-2 c = search needs
 returns-2 : tie.Need-returns-2
 returns-2 c =
     let a = c .before .before .before .before .before .before .before .before .before .before .before .before .before .before .args in
-    ragged-some (verifyCost (now (a .curve))) (now (a .chains)) (now (a .lengths)) (a .depth) (a .kind) (a .rates) (now (a .loaded)) _ (c .before .before .before .before .before .before .before .start-widths .ensures) (c .before .before .before .before .if1 .left) _ (c .before .before .trim .ensures)
+    ragged-some (ruleOf (a .mode) (now (a .curve))) (now (a .chains)) (now (a .lengths)) (a .depth) (a .kind) (a .rates) (now (a .loaded)) _ (c .before .before .before .before .before .before .before .start-widths .ensures) (c .before .before .before .before .if1 .left) _ (c .before .before .trim-by .ensures)
 
 pub gated-ragged-draft-spec : {M : Type 1} → statement M
 gated-ragged-draft-spec =
@@ -39,6 +39,6 @@ gated-ragged-draft-spec =
     start-widths-requires
     same-length
     returns
-    trim-requires
+    trim-by-requires
     same-length-2
     returns-2)

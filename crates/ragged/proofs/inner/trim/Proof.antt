@@ -4,10 +4,10 @@ use Rattle.ragged.proofs.inner.trim.Statement.{statement}
 use Rattle.ragged.proofs.inner.trim.Tie as tie
 
 trim-few-requires : tie.Need-trim-few-requires
-trim-few-requires c κs = ((c .before .before .before .before .before .before .pre .0, c .before .if1 .taken), c .before .before .before .before .before .before .pre .1)
+trim-few-requires c κs = ((c .before .before .before .before .before .before .before .pre .0, c .before .if1 .taken), c .before .before .before .before .before .before .before .pre .1)
 
 trim-many-requires : tie.Need-trim-many-requires
-trim-many-requires c κs = c .before .before .before .before .before .before .pre
+trim-many-requires c κs = c .before .before .before .before .before .before .before .pre
 
 same-length : tie.Need-same-length
 same-length c = search needs

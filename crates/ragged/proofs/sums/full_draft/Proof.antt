@@ -13,11 +13,11 @@ survivals-requires : tie.Need-survivals-requires
 survivals-requires c κs = search needs
 
 tokens-requires : tie.Need-tokens-requires
-tokens-requires c κs = c .before .before .before .before .before .before .pre .0 .narrow
+tokens-requires c κs = c .before .before .before .before .before .before .before .pre .0 .narrow
 
 drafting-requires : tie.Need-drafting-requires
 drafting-requires c κs =
-    let pre = c .before .before .before .before .before .before .before .before .pre in
+    let pre = c .before .before .before .before .before .before .before .before .before .pre in
     ((pre .0 .few, pre .1 .1 .0), (pre .1 .1 .1, pre .1 .1 .2))
 
 int-to-float-starting : tie.Need-int-to-float-starting
@@ -31,7 +31,7 @@ same-length c = search needs
 
 returns : tie.Need-returns
 returns c =
-    let a = c .before .before .before .before .before .before .before .before .before .before .before .before .before .args in (
+    let a = c .before .before .before .before .before .before .before .before .before .before .before .before .before .before .args in (
       c .before .before .before .before .drafting .ensures .0,
       (
         full-sums (listed (now (a .passes))) (now (a .chains)) (a .depth) (now (a .widths)) _ _ _ _ (c .before .before .before .before .before .before .before .survivals .ensures) (c .before .before .before .before .before .before .tokens .ensures) (c .before .before .before .before .drafting .ensures .1) (c .starting .ensures .0),

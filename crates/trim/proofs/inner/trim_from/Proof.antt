@@ -12,12 +12,12 @@ fill-deepest-requires c κs = search needs
 
 heapify-requires : tie.Need-heapify-requires
 heapify-requires c κs =
-    let room = c .before .before .before .before .before .before .before .before .before .before .before .before .before .before .before .before .before .pre .1 .1 .1 .1 .0 in
+    let room = c .before .before .before .before .before .before .before .before .before .before .before .before .before .before .before .before .before .before .pre .1 .1 .1 .1 .0 in
     (omega (arith, c .before .before .before .before .before .before .fill-deepest .ensures .0, c .before .before .before .before .before .before .fill-deepest .kept .1 .1 .0, room), omega (arith, c .before .before .before .before .before .before .fill-deepest .ensures .0, c .before .before .before .before .before .before .fill-deepest .kept .1 .1 .1 .0, room))
 
 weigh-all-requires : tie.Need-weigh-all-requires
 weigh-all-requires c κs =
-    let pre = c .before .before .before .before .before .before .before .before .before .before .before .before .before .before .before .before .before .before .before .before .before .before .before .before .before .before .pre in
+    let pre = c .before .before .before .before .before .before .before .before .before .before .before .before .before .before .before .before .before .before .before .before .before .before .before .before .before .before .before .pre in
     let room = pre .1 .1 .1 .1 .0 in (
       pre .0,
       (

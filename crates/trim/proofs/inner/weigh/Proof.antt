@@ -4,8 +4,8 @@ use mathlib.Core.Path.{ap, _∙_}
 use lib.Ieee.{Float}
 use lib.ListN.{getD}
 use denote.Ref.{now}
-use Rattle.verify_prices.specs.Price.{verifyCost}
-use Rattle.verdict.specs.Decision.{removalAt}
+use Rattle.verify_prices.specs.Rule.{ruleOf}
+use Rattle.verdict.specs.Decision.{removalUnder}
 use Rattle.verdict.specs.Tallies.{sumsOf}
 use Rattle.slots.specs.Slots.{survival}
 use borrow.Author.Needs.{needs}
@@ -41,11 +41,11 @@ without-requires c κs = search needs
 
 returns : tie.Need-returns
 returns c =
-    let a = c .before .before .before .before .before .before .before .before .before .before .args in
-    let price = verifyCost (now (a .curve)) (a .n) in (
+    let a = c .before .before .before .before .before .before .before .before .before .before .before .args in
+    let rule = ruleOf (a .mode) (now (a .curve)) (a .n) in (
       c .without .ensures .0
-          ∙ ap (λ (s : Float). removalAt price (sumsOf (a .tally)) s (c .before .margin .result)) (c .before .before .before .survival-at .ensures)
-          ∙ ap (λ (m : Float). removalAt price (sumsOf (a .tally)) (survival (now (a .chains)) (a .k) (getD (now (a .widths)) (a .k) 0 - 1)) m) (c .before .margin .ensures),
+          ∙ ap (λ (s : Float). removalUnder rule (sumsOf (a .tally)) s (c .before .margin .result)) (c .before .before .before .survival-at .ensures)
+          ∙ ap (λ (m : Float). removalUnder rule (sumsOf (a .tally)) (survival (now (a .chains)) (a .k) (getD (now (a .widths)) (a .k) 0 - 1)) m) (c .before .margin .ensures),
       c .without .ensures .1,
     )
 

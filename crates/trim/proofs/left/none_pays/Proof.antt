@@ -7,6 +7,7 @@ use borrow.Author.Tests.{not-true, not-false}
 use lib.Ieee.{Float}
 use lib.ListN.{length, drop}
 use denote.Ref.{now}
+use Rattle.verify_prices.specs.Rule.{shutBy}
 use Rattle.trim.specs.Kept.{paysAt, noneOf}
 use Rattle.trim.proofs.Passing.{none-next, none-not, none-end}
 use borrow.Author.Needs.{needs}
@@ -16,23 +17,29 @@ use Rattle.trim.proofs.left.none_pays.Tie as tie
 unlooked : (look r : Bool) → look ≡ false → false ≡ cond look r false
 unlooked look r e = rw e
 
-looked : (look : Bool) (answer : Float → Bool) (vp price : Float) (b : Bool) → look ≡ true → answer vp ≡ b → vp ≡ price → b ≡ cond look (answer price) false
-looked look answer vp price b e p q = rw e (sym p ∙ ap answer q)
+looked :
+    (look : Bool) (shutOf : Float → Bool) (answer : Bool → Float → Bool) (shut : Bool) (vp price : Float) (b : Bool)
+    → look ≡ true → answer shut vp ≡ b → shut ≡ shutOf vp → vp ≡ price → b ≡ cond look (answer (shutOf price) price) false
+looked look shutOf answer shut vp price b e p z q =
+    rw e (sym p ∙ ap (λ (x : Bool). answer x vp) z ∙ ap (λ (v : Float). answer (shutOf v) v) q)
 
 abbrev Inv-loop : tie.InvT-loop
-Inv-loop look chains curve widths nk passes left n tally vp i₀ i =
-    (i ≤ length left) × (noneOf (paysAt tally vp chains passes nk widths) left ≡ noneOf (paysAt tally vp chains passes nk widths) (drop i left))
+Inv-loop look chains curve spans widths nk passes left n tally vp shut i₀ i =
+    (i ≤ length left) × (noneOf (paysAt shut tally vp chains passes nk widths) left ≡ noneOf (paysAt shut tally vp chains passes nk widths) (drop i left))
 
 abbrev μ-loop : tie.MeasureT-loop
-μ-loop look chains curve widths nk passes left n tally vp i₀ i = length left - i
+μ-loop look chains curve spans widths nk passes left n tally vp shut i₀ i = length left - i
 
 returns : tie.Need-returns Inv-loop μ-loop
 returns c =
-    let a = c .before .before .before .before .before .before .before .args in
+    let a = c .before .before .before .before .before .before .before .before .args in
     unlooked (a .look) _ (not-true _ (c .if1 .taken))
 
-verify-cost-requires : tie.Need-verify-cost-requires Inv-loop μ-loop
-verify-cost-requires c κs = search needs
+verify-price-requires : tie.Need-verify-price-requires Inv-loop μ-loop
+verify-price-requires c κs = search needs
+
+is-shut-requires : tie.Need-is-shut-requires Inv-loop μ-loop
+is-shut-requires c κs = search needs
 
 loop-holds : tie.Need-loop-holds Inv-loop μ-loop
 loop-holds c = (omega arith, refl)
@@ -48,35 +55,35 @@ add-i c = search needs
 
 slot-pays-requires : tie.Need-slot-pays-requires Inv-loop μ-loop
 slot-pays-requires c κs =
-    let w = c .before .before .before .before .before .before .before .before .before .before .before .before .pre .1 .1 (c .before .before .loop .i) (c .before .loop-test .taken) in
-    ((w .0, w .1 .0), ((w .1 .1 .0, w .1 .1 .1 .0), (c .before .before .before .before .before .before .before .before .before .before .before .before .pre .1 .0, w .1 .1 .1 .1 .0, w .1 .1 .1 .1 .1)))
+    let w = c .before .before .before .before .before .before .before .before .before .before .before .before .before .before .pre .1 .1 (c .before .before .loop .i) (c .before .loop-test .taken) in
+    ((w .0, w .1 .0), ((w .1 .1 .0, w .1 .1 .1 .0), (c .before .before .before .before .before .before .before .before .before .before .before .before .before .before .pre .1 .0, w .1 .1 .1 .1 .0, w .1 .1 .1 .1 .1)))
 
 returns-2 : tie.Need-returns-2 Inv-loop μ-loop
 returns-2 c =
-    let a = c .before .before .before .before .before .before .before .before .before .before .before .before .before .before .args in
-    let answer : Float → Bool = λ v. noneOf (paysAt (a .tally) v (now (a .chains)) (now (a .passes)) (now (a .nk)) (now (a .widths))) (now (a .rest)) in
-    let test = paysAt (a .tally) (c .before .before .before .before .before .verify-cost .result) (now (a .chains)) (now (a .passes)) (now (a .nk)) (now (a .widths)) in
-    looked (a .look) answer (c .before .before .before .before .before .verify-cost .result) _ _ (not-false _ (c .before .before .before .before .before .before .before .if1 .left))
-    (c .before .before .before .before .loop .inv .1 ∙ none-not test (now (a .rest)) (c .before .before .before .before .loop .i) (c .before .before .before .loop-test .taken) (sym (c .before .slot-pays .ensures) ∙ c .if2 .taken)) (c .before .before .before .before .before .verify-cost .ensures)
+    let a = c .before .before .before .before .before .before .before .before .before .before .before .before .before .before .before .before .args in
+    let answer : Bool → Float → Bool = λ z v. noneOf (paysAt z (a .tally) v (now (a .chains)) (now (a .passes)) (now (a .nk)) (now (a .widths))) (now (a .rest)) in
+    let test = paysAt (c .before .before .before .before .before .is-shut .result) (a .tally) (c .before .before .before .before .before .before .verify-price .result) (now (a .chains)) (now (a .passes)) (now (a .nk)) (now (a .widths)) in
+    looked (a .look) (shutBy (a .mode)) answer (c .before .before .before .before .before .is-shut .result) (c .before .before .before .before .before .before .verify-price .result) _ _ (not-false _ (c .before .before .before .before .before .before .before .before .if1 .left))
+    (c .before .before .before .before .loop .inv .1 ∙ none-not test (now (a .rest)) (c .before .before .before .before .loop .i) (c .before .before .before .loop-test .taken) (sym (c .before .slot-pays .ensures) ∙ c .if2 .taken)) (c .before .before .before .before .before .is-shut .ensures) (c .before .before .before .before .before .before .verify-price .ensures)
 
 loop-less : tie.Need-loop-less Inv-loop μ-loop
 loop-less c = search needs
 
 loop-again : tie.Need-loop-again Inv-loop μ-loop
 loop-again c =
-    let a = c .before .before .before .before .before .before .before .before .before .before .before .before .before .before .args in (
+    let a = c .before .before .before .before .before .before .before .before .before .before .before .before .before .before .before .before .args in (
       omega arith,
       c .before .before .before .before .loop .inv .1
-          ∙ none-next (paysAt (a .tally) (c .before .before .before .before .before .verify-cost .result) (now (a .chains)) (now (a .passes)) (now (a .nk)) (now (a .widths))) (now (a .rest)) (c .before .before .before .before .loop .i) (c .before .before .before .loop-test .taken)
+          ∙ none-next (paysAt (c .before .before .before .before .before .is-shut .result) (a .tally) (c .before .before .before .before .before .before .verify-price .result) (now (a .chains)) (now (a .passes)) (now (a .nk)) (now (a .widths))) (now (a .rest)) (c .before .before .before .before .loop .i) (c .before .before .before .loop-test .taken)
           (sym (c .before .slot-pays .ensures) ∙ c .if2 .left),
     )
 
 returns-3 : tie.Need-returns-3 Inv-loop μ-loop
 returns-3 c =
-    let a = c .before .before .before .before .before .before .before .before .before .before .before .args in
-    let answer : Float → Bool = λ v. noneOf (paysAt (a .tally) v (now (a .chains)) (now (a .passes)) (now (a .nk)) (now (a .widths))) (now (a .rest)) in
-    let test = paysAt (a .tally) (c .before .before .verify-cost .result) (now (a .chains)) (now (a .passes)) (now (a .nk)) (now (a .widths)) in
-    looked (a .look) answer (c .before .before .verify-cost .result) _ _ (not-false _ (c .before .before .before .before .if1 .left)) (c .before .loop .inv .1 ∙ none-end test (now (a .rest)) (c .before .loop .i) (c .loop-test .left)) (c .before .before .verify-cost .ensures)
+    let a = c .before .before .before .before .before .before .before .before .before .before .before .before .before .args in
+    let answer : Bool → Float → Bool = λ z v. noneOf (paysAt z (a .tally) v (now (a .chains)) (now (a .passes)) (now (a .nk)) (now (a .widths))) (now (a .rest)) in
+    let test = paysAt (c .before .before .is-shut .result) (a .tally) (c .before .before .before .verify-price .result) (now (a .chains)) (now (a .passes)) (now (a .nk)) (now (a .widths)) in
+    looked (a .look) (shutBy (a .mode)) answer (c .before .before .is-shut .result) (c .before .before .before .verify-price .result) _ _ (not-false _ (c .before .before .before .before .before .if1 .left)) (c .before .loop .inv .1 ∙ none-end test (now (a .rest)) (c .before .loop .i) (c .loop-test .left)) (c .before .before .is-shut .ensures) (c .before .before .before .verify-price .ensures)
 
 pub none-pays-spec : {M : Type 1} → statement M
 none-pays-spec =
@@ -85,7 +92,8 @@ none-pays-spec =
     Inv-loop
     μ-loop
     returns
-    verify-cost-requires
+    verify-price-requires
+    is-shut-requires
     loop-holds
     mul-k
     shared-slice-read-k

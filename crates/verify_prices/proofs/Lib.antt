@@ -1,0 +1,5 @@
+pub mod Spans
+pub mod Between
+pub mod OverOne
+pub mod NoHole
+pub mod Priced
