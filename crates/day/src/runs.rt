@@ -23,7 +23,8 @@ pub fn argument(
     fresh(&path[..n], named, day, file, floats, wholes)
 }
 
-// Nothing is held, and every setting is 0: gamma 0, Fixed, constant acceptance 0, no drafter, no limits on switching, no rates, no prices.
+// Nothing is held, and every setting is 0: gamma 0, Fixed, constant acceptance 0, no drafter, no limits on switching, no rates, no prices,
+// and the default price mode.
 fn fresh(
     path: &[u8],
     named: bool,
@@ -33,7 +34,7 @@ fn fresh(
     wholes: &mut [u32],
 ) -> u64 {
     let mut storage = [0u64; 18308];
-    let mut set = [0u64; 32];
+    let mut set = [0u64; 33];
     let mut clock = [0u64; 66];
     let mut page = [0u8; 65536];
     ledger::fresh(&mut storage);

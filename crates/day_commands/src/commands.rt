@@ -63,6 +63,7 @@ fn command(
         Command::Roofline => listed::roofline(turn, line, set, floats, page),
         Command::Table => lent::table(turn, day, line, set, floats, wholes, file, page),
         Command::Loaded => listed::loaded(turn, line, set, floats, page),
+        Command::Prices => setup::prices(turn, line, set, page),
         Command::Plan => asked::plan(turn, line, set, floats, wholes, storage, clock, page),
         Command::Collect => acts::collect(turn, line, storage, clock, page),
         Command::Withdraw => acts::withdraw(turn, storage, clock, page),

@@ -4,7 +4,7 @@ use mathlib.Core.List.{List, [], _∷_}
 use Rattle.text.specs.Fields.{fields}
 use Rattle.day_line.specs.DayLine.{uncommented, fieldOf}
 use Rattle.day_names.specs.declared.Command.{Command}
-use Rattle.day_names.specs.declared.Command.the-variants.{Nothing, Gamma, Policy, Acceptance, Drafter, Switch, Rates, Roofline, Table, Loaded, Plan, Collect, Withdraw, Series, SeriesBits, Day, Unknown}
+use Rattle.day_names.specs.declared.Command.the-variants.{Nothing, Gamma, Policy, Acceptance, Drafter, Switch, Rates, Roofline, Table, Loaded, Prices, Plan, Collect, Withdraw, Series, SeriesBits, Day, Unknown}
 use Rattle.day_names.specs.declared.AcceptanceName.{AcceptanceName}
 use Rattle.day_names.specs.declared.AcceptanceName.the-variants.{Constant, PerPosition, Trace, Unknown as NoAcceptance}
 use Rattle.day_names.specs.declared.DrafterName.{DrafterName}
@@ -12,7 +12,7 @@ use Rattle.day_names.specs.declared.DrafterName.the-variants.{Fraction, Autoreg
 use Rattle.day_names.specs.Names.{commandOf, acceptanceOf, drafterOf}
 use Rattle.day_shapes.specs.declared.Judged.{Judged}
 use Rattle.day_shapes.specs.declared.Judged.the-variants.{Right, Wrong}
-use Rattle.day_shapes.specs.Shapes.{anyText, whole, decimal, wholeOrNone, policy, following, shapeJudged}
+use Rattle.day_shapes.specs.Shapes.{anyText, whole, decimal, wholeOrNone, policy, prices, following, shapeJudged}
 
 -- a line judged by a shape, whose first letter is the command's own field
 abbrev pub shaped : List ℕ → List ℕ → Judged
@@ -51,6 +51,7 @@ commandShaped Rates line = shaped (decimal ∷ decimal ∷ decimal ∷ []) line
 commandShaped Roofline line = shaped (following ∷ []) line
 commandShaped Table line = shaped (anyText ∷ []) line
 commandShaped Loaded line = shaped (following ∷ []) line
+commandShaped Prices line = shaped (prices ∷ []) line
 commandShaped Plan line = shaped (whole ∷ whole ∷ decimal ∷ whole ∷ following ∷ []) line
 commandShaped Collect line = shaped (whole ∷ whole ∷ []) line
 commandShaped Withdraw line = shaped [] line

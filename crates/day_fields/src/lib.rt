@@ -27,6 +27,7 @@ pub fn line_judged(line: &[u8]) -> Judged
         Command::Roofline => shape_judged(line, b"t*"),
         Command::Table => shape_judged(line, b"tt"),
         Command::Loaded => shape_judged(line, b"t*"),
+        Command::Prices => shape_judged(line, b"tm"),
         Command::Plan => shape_judged(line, b"twwdw*"),
         Command::Collect => shape_judged(line, b"tww"),
         Command::Withdraw => shape_judged(line, b"t"),

@@ -5,7 +5,7 @@ use Rattle.numeral.specs.Spelling.{wholeOf}
 use Rattle.decimals.specs.Decimals.{isTooLong, ofParts, unsignedOf, decimalOf}
 use Rattle.day_line.specs.DayLine.{uncommented}
 use Rattle.day_names.specs.declared.Command.the-variants.{Nothing, Gamma, Rates, Series, SeriesBits, Unknown}
-use Rattle.day_names.specs.Names.{commandOf, settingNamed, actNamed, policyOf, acceptanceOf, drafterOf}
+use Rattle.day_names.specs.Names.{commandOf, settingNamed, actNamed, policyOf, acceptanceOf, drafterOf, pricesOf}
 use Rattle.day_shapes.specs.declared.Judged.the-variants.{Right, Wrong}
 use Rattle.day_shapes.specs.Shapes.{fieldWrong}
 use Rattle.day_fields.specs.Commands.{lineJudged}
@@ -74,6 +74,16 @@ gamma-twice = refl
 no-policy : lineJudged (112 ∷ 111 ∷ 108 ∷ 105 ∷ 99 ∷ 121 ∷ 44 ∷ 98 ∷ 101 ∷ 115 ∷ 116 ∷ []) ≡ Wrong 1 3
 unfolding uncommented actNamed settingNamed commandOf policyOf acceptanceOf drafterOf wholeOf isTooLong ofParts unsignedOf decimalOf fieldWrong lineJudged
 no-policy = refl
+
+-- `prices,bridged`
+bridged-right : lineJudged (112 ∷ 114 ∷ 105 ∷ 99 ∷ 101 ∷ 115 ∷ 44 ∷ 98 ∷ 114 ∷ 105 ∷ 100 ∷ 103 ∷ 101 ∷ 100 ∷ []) ≡ Right
+unfolding uncommented actNamed settingNamed commandOf pricesOf fieldWrong lineJudged
+bridged-right = refl
+
+-- `prices,cheap`
+no-prices : lineJudged (112 ∷ 114 ∷ 105 ∷ 99 ∷ 101 ∷ 115 ∷ 44 ∷ 99 ∷ 104 ∷ 101 ∷ 97 ∷ 112 ∷ []) ≡ Wrong 1 3
+unfolding uncommented actNamed settingNamed commandOf pricesOf fieldWrong lineJudged
+no-prices = refl
 
 -- `gama,4`
 no-command : lineJudged (103 ∷ 97 ∷ 109 ∷ 97 ∷ 44 ∷ 52 ∷ []) ≡ Wrong 0 8

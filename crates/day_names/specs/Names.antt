@@ -7,13 +7,15 @@ use lib.ListN.{length}
 use Rattle.text.specs.Fields.{sameText}
 use Rattle.day_line.specs.DayLine.{uncommented, fieldOf}
 use Rattle.day_names.specs.declared.Command.{Command}
-use Rattle.day_names.specs.declared.Command.the-variants.{Nothing, Gamma, Policy, Acceptance, Drafter, Switch, Rates, Roofline, Table, Loaded, Plan, Collect, Withdraw, Series, SeriesBits, Day, Unknown}
+use Rattle.day_names.specs.declared.Command.the-variants.{Nothing, Gamma, Policy, Acceptance, Drafter, Switch, Rates, Roofline, Table, Loaded, Prices, Plan, Collect, Withdraw, Series, SeriesBits, Day, Unknown}
 use Rattle.day_names.specs.declared.PolicyName.{PolicyName}
 use Rattle.day_names.specs.declared.PolicyName.the-variants.{Fixed, GoodputBudget, GatedBudget, GatedAggregate, Unknown as NoPolicy}
 use Rattle.day_names.specs.declared.AcceptanceName.{AcceptanceName}
 use Rattle.day_names.specs.declared.AcceptanceName.the-variants.{Constant, PerPosition, Trace, Unknown as NoAcceptance}
 use Rattle.day_names.specs.declared.DrafterName.{DrafterName}
 use Rattle.day_names.specs.declared.DrafterName.the-variants.{Fraction, Autoregressive, BlockParallel, Absent, Unknown as NoDrafter}
+use Rattle.day_names.specs.declared.PricesName.{PricesName}
+use Rattle.day_names.specs.declared.PricesName.the-variants.{Default, Bridged, Unknown as NoPrices}
 
 -- `gamma`
 abbrev pub gammaText : List ℕ
@@ -50,6 +52,10 @@ tableText = 116 ∷ 97 ∷ 98 ∷ 108 ∷ 101 ∷ []
 -- `loaded`
 abbrev pub loadedText : List ℕ
 loadedText = 108 ∷ 111 ∷ 97 ∷ 100 ∷ 101 ∷ 100 ∷ []
+
+-- `prices`
+abbrev pub pricesText : List ℕ
+pricesText = 112 ∷ 114 ∷ 105 ∷ 99 ∷ 101 ∷ 115 ∷ []
 
 -- `plan`
 abbrev pub planText : List ℕ
@@ -115,6 +121,14 @@ autoregressiveText = 97 ∷ 117 ∷ 116 ∷ 111 ∷ 114 ∷ 101 ∷ 103 ∷ 114 
 abbrev pub blockParallelText : List ℕ
 blockParallelText = 98 ∷ 108 ∷ 111 ∷ 99 ∷ 107 ∷ 95 ∷ 112 ∷ 97 ∷ 114 ∷ 97 ∷ 108 ∷ 108 ∷ 101 ∷ 108 ∷ []
 
+-- `default`
+abbrev pub defaultText : List ℕ
+defaultText = 100 ∷ 101 ∷ 102 ∷ 97 ∷ 117 ∷ 108 ∷ 116 ∷ []
+
+-- `bridged`
+abbrev pub bridgedText : List ℕ
+bridgedText = 98 ∷ 114 ∷ 105 ∷ 100 ∷ 103 ∷ 101 ∷ 100 ∷ []
+
 -- `none`
 abbrev pub noneText : List ℕ
 noneText = 110 ∷ 111 ∷ 110 ∷ 101 ∷ []
@@ -144,7 +158,8 @@ settingNamed name =
     (cond (sameText name rooflineText) Roofline
     (cond (sameText name tableText) Table
     (cond (sameText name loadedText) Loaded
-    (actNamed name)))))))))
+    (cond (sameText name pricesText) Prices
+    (actNamed name))))))))))
 
 -- `series,bits`
 abbrev pub isBitSeries : List ℕ → Bool
@@ -179,3 +194,10 @@ drafterOf name =
     (cond (sameText name blockParallelText) BlockParallel
     (cond (sameText name noneText) Absent
     NoDrafter)))
+
+-- the price mode of this name
+unfoldable pub pricesOf : List ℕ → PricesName
+pricesOf name =
+    cond (sameText name defaultText) Default
+    (cond (sameText name bridgedText) Bridged
+    NoPrices)

@@ -1,6 +1,6 @@
 // The names of a day file: which command a line asks for, and the names that its fields may have.
 ghost use mathlib.Core.Path.{_≡_};
-ghost use Rattle.day_names.specs.Names.{settingNamed, actNamed, isBitSeries, commandOf, policyOf, acceptanceOf, drafterOf, isNone};
+ghost use Rattle.day_names.specs.Names.{settingNamed, actNamed, isBitSeries, commandOf, policyOf, acceptanceOf, drafterOf, pricesOf, isNone};
 
 // What a line asks for.
 pub enum Command {
@@ -14,6 +14,7 @@ pub enum Command {
     Roofline,
     Table,
     Loaded,
+    Prices,
     Plan,
     Collect,
     Withdraw,
@@ -43,6 +44,12 @@ pub enum DrafterName {
     Autoregressive,
     BlockParallel,
     Absent,
+    Unknown,
+}
+
+pub enum PricesName {
+    Default,
+    Bridged,
     Unknown,
 }
 
@@ -99,6 +106,9 @@ fn setting_named(name: &[u8]) -> Command
     }
     if text::same(name, b"loaded") {
         return Command::Loaded;
+    }
+    if text::same(name, b"prices") {
+        return Command::Prices;
     }
     act_named(name)
 }
@@ -177,6 +187,19 @@ pub fn drafter_of(name: &[u8]) -> DrafterName
         return DrafterName::Absent;
     }
     DrafterName::Unknown
+}
+
+// The price mode of this name.
+pub fn prices_of(name: &[u8]) -> PricesName
+    ensures { λ r. ⌜ r ≡ pricesOf (now (name .entry)) ⌝ }
+{
+    if text::same(name, b"default") {
+        return PricesName::Default;
+    }
+    if text::same(name, b"bridged") {
+        return PricesName::Bridged;
+    }
+    PricesName::Unknown
 }
 
 // Whether a field is `none`.

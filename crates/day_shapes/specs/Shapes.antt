@@ -10,11 +10,13 @@ use Rattle.numeral.specs.Spelling.{wholeOf}
 use Rattle.decimals.specs.Decimals.{decimalRefusal, decimalOf}
 use Rattle.day_names.specs.declared.PolicyName.{PolicyName}
 use Rattle.day_names.specs.declared.PolicyName.the-variants.{Fixed, GoodputBudget, GatedBudget, GatedAggregate, Unknown as NoPolicy}
-use Rattle.day_names.specs.Names.{policyOf, isNone}
+use Rattle.day_names.specs.declared.PricesName.{PricesName}
+use Rattle.day_names.specs.declared.PricesName.the-variants.{Default, Bridged, Unknown as NoPrices}
+use Rattle.day_names.specs.Names.{policyOf, pricesOf, isNone}
 use Rattle.day_shapes.specs.declared.Judged.{Judged}
 use Rattle.day_shapes.specs.declared.Judged.the-variants.{Right, Wrong}
 
--- ---- the letters: t, w, d, n, p and *
+-- ---- the letters: t, w, d, n, p, m and *
 abbrev pub anyText : ℕ
 anyText = 116
 
@@ -29,6 +31,9 @@ wholeOrNone = 110
 
 abbrev pub policy : ℕ
 policy = 112
+
+abbrev pub prices : ℕ
+prices = 109
 
 abbrev pub following : ℕ
 following = 42
@@ -45,6 +50,14 @@ policyNumber NoPolicy = 3
 abbrev pub policyWrong : List ℕ → ℕ
 policyWrong field = policyNumber (policyOf field)
 
+abbrev pub pricesNumber : PricesName → ℕ
+pricesNumber Default = 0
+pricesNumber Bridged = 0
+pricesNumber NoPrices = 3
+
+abbrev pub pricesWrong : List ℕ → ℕ
+pricesWrong field = pricesNumber (pricesOf field)
+
 abbrev pub optionWrong : List ℕ → ℕ
 optionWrong field = cond (isNone field) 0 (wholeRefusal (wholeOf field))
 
@@ -56,8 +69,9 @@ fieldWrong letter field =
     (cond (eqb letter decimal) (decimalRefusal (decimalOf field))
     (cond (eqb letter wholeOrNone) (optionWrong field)
     (cond (eqb letter policy) (policyWrong field)
+    (cond (eqb letter prices) (pricesWrong field)
     (cond (eqb letter following) 0
-    2)))))
+    2))))))
 
 -- ---- the fields of a line, from the one at a place on
 

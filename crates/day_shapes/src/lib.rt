@@ -1,6 +1,8 @@
 // What the fields of a line have to be, and the first that is not. A shape has a letter for each field:
-// `t` any text, `w` a whole number, `d` a decimal, `n` a whole number or `none`, `p` the name of a policy, `*` whatever fields follow.
+// `t` any text, `w` a whole number, `d` a decimal, `n` a whole number or `none`, `p` the name of a policy,
+// `m` the name of a price mode, `*` whatever fields follow.
 use day_names::PolicyName;
+use day_names::PricesName;
 ghost use mathlib.Core.Path.{_≡_};
 ghost use Prim.Native.Nat.{_≤_};
 ghost use lib.ListN.{length, getD, take};
@@ -9,7 +11,7 @@ ghost use Rattle.trimming.specs.Trim.{trimmed};
 ghost use Rattle.numeral.specs.Refusals.{wholeRefusal};
 ghost use Rattle.numeral.specs.Spelling.{wholeOf};
 ghost use Rattle.day_line.specs.DayLine.{uncommented};
-ghost use Rattle.day_shapes.specs.Shapes.{stepOf, policyWrong, optionWrong, fieldWrong, endJudged, shapeJudged};
+ghost use Rattle.day_shapes.specs.Shapes.{stepOf, policyWrong, pricesWrong, optionWrong, fieldWrong, endJudged, shapeJudged};
 
 // Every field is what it has to be; or the first that is not, counted from 0, and what was expected there:
 // 1 more fields, 2 no more fields, 3 one of the names, 5 a whole number, 6 a decimal, 7 a decimal of fewer digits.
@@ -115,6 +117,9 @@ fn field_wrong(letter: u8, field: &[u8]) -> u64
     if letter == b'p' {
         return policy_wrong(field);
     }
+    if letter == b'm' {
+        return prices_wrong(field);
+    }
     if letter == b'*' {
         return 0;
     }
@@ -150,5 +155,17 @@ fn policy_wrong(field: &[u8]) -> u64
         PolicyName::GatedBudget => 0,
         PolicyName::GatedAggregate => 0,
         PolicyName::Unknown => 3,
+    }
+}
+
+// 3 for what is no price mode's name.
+fn prices_wrong(field: &[u8]) -> u64
+    ensures { λ r. ⌜ r ≡ pricesWrong (now (field .entry)) ⌝ }
+{
+    let named = day_names::prices_of(field);
+    match named {
+        PricesName::Default => 0,
+        PricesName::Bridged => 0,
+        PricesName::Unknown => 3,
     }
 }

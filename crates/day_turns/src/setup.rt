@@ -4,6 +4,7 @@ use crate::turns::Turn;
 use crate::values;
 use day_names::DrafterName;
 use day_names::PolicyName;
+use day_names::PricesName;
 use plan_lent::registers;
 
 pub fn gamma(turn: Turn, line: &[u8], set: &mut [u64], page: &mut [u8]) -> Turn {
@@ -56,6 +57,20 @@ pub fn rates(turn: Turn, line: &[u8], set: &mut [u64], page: &mut [u8]) -> Turn 
     registers::put(set, 7, values::bits(line, 2));
     registers::put(set, 8, values::bits(line, 3));
     turns::set(turn, line, page)
+}
+
+// How a depth that is not measured is priced.
+pub fn prices(turn: Turn, line: &[u8], set: &mut [u64], page: &mut [u8]) -> Turn {
+    registers::put(set, 32, prices_number(line));
+    turns::set(turn, line, page)
+}
+
+fn prices_number(line: &[u8]) -> u64 {
+    match day_names::prices_of(day_line::field(line, 1)) {
+        PricesName::Default => 0,
+        PricesName::Bridged => 1,
+        PricesName::Unknown => 0,
+    }
 }
 
 pub fn drafter(turn: Turn, line: &[u8], set: &mut [u64], page: &mut [u8]) -> Turn {

@@ -3,13 +3,15 @@ use Prim.Native.Nat.{ℕ}
 use mathlib.Core.Bool.{cond}
 use lib.Dec.{eqb}
 use Rattle.day_names.specs.declared.Command.{Command}
-use Rattle.day_names.specs.declared.Command.the-variants.{Nothing, Gamma, Policy, Acceptance, Drafter, Switch, Rates, Roofline, Table, Loaded, Plan, Collect, Withdraw, Series, SeriesBits, Day, Unknown}
+use Rattle.day_names.specs.declared.Command.the-variants.{Nothing, Gamma, Policy, Acceptance, Drafter, Switch, Rates, Roofline, Table, Loaded, Prices, Plan, Collect, Withdraw, Series, SeriesBits, Day, Unknown}
 use Rattle.day_names.specs.declared.PolicyName.{PolicyName}
 use Rattle.day_names.specs.declared.PolicyName.the-variants.{Fixed, GoodputBudget, GatedBudget, GatedAggregate, Unknown as NoPolicy}
 use Rattle.day_names.specs.declared.AcceptanceName.{AcceptanceName}
 use Rattle.day_names.specs.declared.AcceptanceName.the-variants.{Constant, PerPosition, Trace, Unknown as NoAcceptance}
 use Rattle.day_names.specs.declared.DrafterName.{DrafterName}
 use Rattle.day_names.specs.declared.DrafterName.the-variants.{Fraction, Autoregressive, BlockParallel, Absent, Unknown as NoDrafter}
+use Rattle.day_names.specs.declared.PricesName.{PricesName}
+use Rattle.day_names.specs.declared.PricesName.the-variants.{Default, Bridged, Unknown as NoPrices}
 use Rattle.day_shapes.specs.declared.Judged.{Judged}
 use Rattle.day_shapes.specs.declared.Judged.the-variants.{Right, Wrong}
 use Rattle.day_lists.specs.declared.Listed.{Listed}
@@ -30,13 +32,14 @@ commandNumber Rates = 6
 commandNumber Roofline = 7
 commandNumber Table = 8
 commandNumber Loaded = 9
-commandNumber Plan = 10
-commandNumber Collect = 11
-commandNumber Withdraw = 12
-commandNumber Series = 13
-commandNumber SeriesBits = 14
-commandNumber Day = 15
-commandNumber Unknown = 16
+commandNumber Prices = 10
+commandNumber Plan = 11
+commandNumber Collect = 12
+commandNumber Withdraw = 13
+commandNumber Series = 14
+commandNumber SeriesBits = 15
+commandNumber Day = 16
+commandNumber Unknown = 17
 
 abbrev pub policyNumber : PolicyName → ℕ
 policyNumber Fixed = 0
@@ -57,6 +60,11 @@ drafterNumber Autoregressive = 1
 drafterNumber BlockParallel = 2
 drafterNumber Absent = 3
 drafterNumber NoDrafter = 4
+
+abbrev pub pricesNumber : PricesName → ℕ
+pricesNumber Default = 0
+pricesNumber Bridged = 1
+pricesNumber NoPrices = 2
 
 -- what was expected, and the field that is wrong
 abbrev pub judgedTold : Judged → Told

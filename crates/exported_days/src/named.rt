@@ -3,9 +3,10 @@ use day_names::AcceptanceName;
 use day_names::Command;
 use day_names::DrafterName;
 use day_names::PolicyName;
+use day_names::PricesName;
 ghost use mathlib.Core.Path.{_≡_};
-ghost use Rattle.day_names.specs.Names.{commandOf, policyOf, acceptanceOf, drafterOf, isNone};
-ghost use Rattle.exported_days.specs.Days.{commandNumber, policyNumber, acceptanceNumber, drafterNumber};
+ghost use Rattle.day_names.specs.Names.{commandOf, policyOf, acceptanceOf, drafterOf, pricesOf, isNone};
+ghost use Rattle.exported_days.specs.Days.{commandNumber, policyNumber, acceptanceNumber, drafterNumber, pricesNumber};
 
 #[no_mangle]
 pub extern "C" fn day_names_command_of(line: &[u8]) -> u64
@@ -22,13 +23,14 @@ pub extern "C" fn day_names_command_of(line: &[u8]) -> u64
         Command::Roofline => 7,
         Command::Table => 8,
         Command::Loaded => 9,
-        Command::Plan => 10,
-        Command::Collect => 11,
-        Command::Withdraw => 12,
-        Command::Series => 13,
-        Command::SeriesBits => 14,
-        Command::Day => 15,
-        Command::Unknown => 16,
+        Command::Prices => 10,
+        Command::Plan => 11,
+        Command::Collect => 12,
+        Command::Withdraw => 13,
+        Command::Series => 14,
+        Command::SeriesBits => 15,
+        Command::Day => 16,
+        Command::Unknown => 17,
     }
 }
 
@@ -67,6 +69,17 @@ pub extern "C" fn day_names_drafter_of(name: &[u8]) -> u64
         DrafterName::BlockParallel => 2,
         DrafterName::Absent => 3,
         DrafterName::Unknown => 4,
+    }
+}
+
+#[no_mangle]
+pub extern "C" fn day_names_prices_of(name: &[u8]) -> u64
+    ensures { λ r. ⌜ r ≡ pricesNumber (pricesOf (now (name .entry))) ⌝ }
+{
+    match day_names::prices_of(name) {
+        PricesName::Default => 0,
+        PricesName::Bridged => 1,
+        PricesName::Unknown => 2,
     }
 }
 

@@ -1,7 +1,8 @@
 // The registers, a word each: the drafter (0 to 5), peak, bw and kv_delta (6 to 8), gamma (9), the model's kind (10: 0 Constant,
 // 1 PerPosition, 2 Trace) and its alpha (11), the policy (12: 0 Fixed, 1 GoodputBudget, 2 GatedBudget, 3 GatedAggregate), cooldown_rounds (13),
 // whether there is a max_step and which (14, 15), cost_ms (16), whether there is a table (17) and its rows (18), the bank's depth and rounds
-// (19, 20), and the lengths of the lists (21 to 31).
+// (19, 20), the lengths of the lists (21 to 31), and the price mode (32: 0 Default, else Bridged).
+use crate::lists::LISTS;
 use acceptance::AcceptanceModel;
 use asking::Ask;
 use cases::words;
@@ -11,9 +12,10 @@ use settings::Policy;
 use settings::Settings;
 use switch_settings::MaxStep;
 use switch_settings::SwitchConstraints;
+use verify_prices::PriceMode;
 
 // How many registers there are.
-pub const REGISTERS: usize = 32;
+pub const REGISTERS: usize = 33;
 
 // Where the lengths of the lists start.
 const LENGTHS: usize = 21;
@@ -37,14 +39,14 @@ pub fn set(call: &[u64], registers: &mut [u64]) {
 
 // The length of a list.
 pub fn length_of(registers: &[u64], list: usize) -> u64 {
-    if REGISTERS <= list {
+    if LISTS <= list {
         return 0;
     }
     words::at(registers, LENGTHS + list)
 }
 
 pub fn set_length(registers: &mut [u64], list: usize, length: u64) {
-    if list < REGISTERS {
+    if list < LISTS {
         put(registers, LENGTHS + list, length);
     }
 }
@@ -90,17 +92,26 @@ fn switch(registers: &[u64]) -> SwitchConstraints {
     }
 }
 
+fn prices(registers: &[u64]) -> PriceMode {
+    if words::at(registers, 32) == 0 {
+        return PriceMode::Default;
+    }
+    PriceMode::Bridged
+}
+
 pub fn settings(registers: &[u64]) -> Settings {
     let model = model(registers);
     let policy = policy(registers);
     let switch = switch(registers);
     let drafter = drafters::drafter_of(registers);
+    let prices = prices(registers);
     Settings {
         gamma: words::whole_at(registers, 9),
         model,
         policy,
         switch,
         drafter,
+        prices,
     }
 }
 

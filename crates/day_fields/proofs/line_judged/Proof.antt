@@ -152,6 +152,15 @@ shape-judged-requires-13 c κs = search needs
 enum-told-17 : tie.Need-enum-told-17
 enum-told-17 c = search needs
 
+slice-aggregate-shape-judged-14 : tie.Need-slice-aggregate-shape-judged-14
+slice-aggregate-shape-judged-14 c = search needs
+
+shape-judged-requires-14 : tie.Need-shape-judged-requires-14
+shape-judged-requires-14 c κs = search needs
+
+enum-told-18 : tie.Need-enum-told-18
+enum-told-18 c = search needs
+
 returns : tie.Need-returns
 unfolding lineJudged
 returns c = told (c .before .before .before .before .args .line .now) (c .before .before .command-of .result) _ _ _ (c .before .before .command-of .ensures) (c .enum-told .given .1) refl
@@ -218,7 +227,11 @@ returns-16 c = told (c .before .before .before .before .before .before .args .li
 
 returns-17 : tie.Need-returns-17
 unfolding lineJudged
-returns-17 c = told (c .before .before .before .before .args .line .now) (c .before .before .command-of .result) _ _ _ (c .before .before .command-of .ensures) (c .enum-told17 .given .1) refl
+returns-17 c = told (c .before .before .before .before .before .before .args .line .now) (c .before .before .before .before .command-of .result) _ _ _ (c .before .before .before .before .command-of .ensures) (c .before .before .enum-told17 .given .1) (c .shape-judged14 .ensures)
+
+returns-18 : tie.Need-returns-18
+unfolding lineJudged
+returns-18 c = told (c .before .before .before .before .args .line .now) (c .before .before .command-of .result) _ _ _ (c .before .before .command-of .ensures) (c .enum-told18 .given .1) refl
 
 pub line-judged-spec : {M : Type 1} → statement M
 line-judged-spec =
@@ -270,6 +283,9 @@ line-judged-spec =
     slice-aggregate-shape-judged-13
     shape-judged-requires-13
     enum-told-17
+    slice-aggregate-shape-judged-14
+    shape-judged-requires-14
+    enum-told-18
     returns
     returns-2
     returns-3
@@ -286,4 +302,5 @@ line-judged-spec =
     returns-14
     returns-15
     returns-16
-    returns-17)
+    returns-17
+    returns-18)

@@ -66,26 +66,41 @@ returns-5 c =
     (other _ 110 _ _ _ (c .before .before .if4 .left)
     (fits _ 112 _ _ _ (c .before .if5 .taken) (c .policy-wrong .ensures)))))
 
+prices-wrong-requires : tie.Need-prices-wrong-requires
+prices-wrong-requires c κs = search needs
+
 returns-6 : tie.Need-returns-6
 unfolding fieldWrong
 returns-6 c =
-    other _ 116 _ _ _ (c .before .before .before .before .before .if1 .left)
-    (other _ 119 _ _ _ (c .before .before .before .before .if2 .left)
-    (other _ 100 _ _ _ (c .before .before .before .if3 .left)
-    (other _ 110 _ _ _ (c .before .before .if4 .left)
-    (other _ 112 _ _ _ (c .before .if5 .left)
-    (fits _ 42 _ _ _ (c .if6 .taken) (refl))))))
+    other _ 116 _ _ _ (c .before .before .before .before .before .before .if1 .left)
+    (other _ 119 _ _ _ (c .before .before .before .before .before .if2 .left)
+    (other _ 100 _ _ _ (c .before .before .before .before .if3 .left)
+    (other _ 110 _ _ _ (c .before .before .before .if4 .left)
+    (other _ 112 _ _ _ (c .before .before .if5 .left)
+    (fits _ 109 _ _ _ (c .before .if6 .taken) (c .prices-wrong .ensures))))))
 
 returns-7 : tie.Need-returns-7
 unfolding fieldWrong
 returns-7 c =
-    other _ 116 _ _ _ (c .before .before .before .before .before .if1 .left)
-    (other _ 119 _ _ _ (c .before .before .before .before .if2 .left)
-    (other _ 100 _ _ _ (c .before .before .before .if3 .left)
-    (other _ 110 _ _ _ (c .before .before .if4 .left)
-    (other _ 112 _ _ _ (c .before .if5 .left)
-    (other _ 42 _ _ _ (c .if6 .left)
-    (refl))))))
+    other _ 116 _ _ _ (c .before .before .before .before .before .before .if1 .left)
+    (other _ 119 _ _ _ (c .before .before .before .before .before .if2 .left)
+    (other _ 100 _ _ _ (c .before .before .before .before .if3 .left)
+    (other _ 110 _ _ _ (c .before .before .before .if4 .left)
+    (other _ 112 _ _ _ (c .before .before .if5 .left)
+    (other _ 109 _ _ _ (c .before .if6 .left)
+    (fits _ 42 _ _ _ (c .if7 .taken) (refl)))))))
+
+returns-8 : tie.Need-returns-8
+unfolding fieldWrong
+returns-8 c =
+    other _ 116 _ _ _ (c .before .before .before .before .before .before .if1 .left)
+    (other _ 119 _ _ _ (c .before .before .before .before .before .if2 .left)
+    (other _ 100 _ _ _ (c .before .before .before .before .if3 .left)
+    (other _ 110 _ _ _ (c .before .before .before .if4 .left)
+    (other _ 112 _ _ _ (c .before .before .if5 .left)
+    (other _ 109 _ _ _ (c .before .if6 .left)
+    (other _ 42 _ _ _ (c .if7 .left)
+    (refl)))))))
 
 pub field-wrong-spec : {M : Type 1} → statement M
 field-wrong-spec =
@@ -100,5 +115,7 @@ field-wrong-spec =
     returns-4
     policy-wrong-requires
     returns-5
+    prices-wrong-requires
     returns-6
-    returns-7)
+    returns-7
+    returns-8)

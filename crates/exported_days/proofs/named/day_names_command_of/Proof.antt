@@ -59,6 +59,9 @@ enum-told-16 c = search needs
 enum-told-17 : tie.Need-enum-told-17
 enum-told-17 c = search needs
 
+enum-told-18 : tie.Need-enum-told-18
+enum-told-18 c = search needs
+
 returns : tie.Need-returns
 returns c = ap commandNumber (sym (c .enum-told .given .1) ∙ c .before .before .command-of .ensures)
 
@@ -110,6 +113,9 @@ returns-16 c = ap commandNumber (sym (c .enum-told16 .given .1) ∙ c .before .b
 returns-17 : tie.Need-returns-17
 returns-17 c = ap commandNumber (sym (c .enum-told17 .given .1) ∙ c .before .before .command-of .ensures)
 
+returns-18 : tie.Need-returns-18
+returns-18 c = ap commandNumber (sym (c .enum-told18 .given .1) ∙ c .before .before .command-of .ensures)
+
 pub day-names-command-of-spec : {M : Type 1} → statement M
 day-names-command-of-spec =
     tie.close
@@ -132,6 +138,7 @@ day-names-command-of-spec =
     enum-told-15
     enum-told-16
     enum-told-17
+    enum-told-18
     returns
     returns-2
     returns-3
@@ -148,4 +155,5 @@ day-names-command-of-spec =
     returns-14
     returns-15
     returns-16
-    returns-17)
+    returns-17
+    returns-18)

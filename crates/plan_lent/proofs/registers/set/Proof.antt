@@ -7,7 +7,7 @@ use Rattle.plan_lent.proofs.registers.set.Statement.{statement}
 use Rattle.plan_lent.proofs.registers.set.Tie as tie
 
 abbrev Inv-loop : tie.InvT-loop
-Inv-loop call registers₀ first k₀ registers k = (2 ≤ k) × (first ≤ 32) × (length registers ≡ length registers₀)
+Inv-loop call registers₀ first k₀ registers k = (2 ≤ k) × (first ≤ 33) × (length registers ≡ length registers₀)
 
 abbrev μ-loop : tie.MeasureT-loop
 μ-loop call registers₀ first k₀ registers k = length call - k
