@@ -2,10 +2,21 @@
 use crate::answers;
 use exported::Told;
 use exported_costs::asked;
+use verify_prices::PriceMode;
 ghost use mathlib.Core.Path.{_≡_};
 ghost use Rattle.gates.specs.Entry.{raggedAnswer, blockAnswer};
 ghost use Rattle.exported_costs.specs.Asked.{drafterOf, ratesOf};
-ghost use Rattle.exported_batches.specs.Answers.{widthsLeft};
+ghost use Rattle.exported_batches.specs.Answers.{modeOf, widthsLeft};
+
+// 0 the default, any other number bridged.
+fn mode_of(mode: u32) -> PriceMode
+    ensures { λ r. ⌜ r ≡ modeOf mode ⌝ }
+{
+    if mode == 0 {
+        return PriceMode::Default;
+    }
+    PriceMode::Bridged
+}
 
 // `first` is how many slots were weighed; the widths stand at the front of `widths`.
 #[no_mangle]
@@ -14,6 +25,7 @@ pub extern "C" fn gates_ragged(
     lengths: &[u32],
     curve: &[f64],
     gamma: u32,
+    mode: u32,
     kind: u32,
     p: f64,
     q: f64,
@@ -26,15 +38,17 @@ pub extern "C" fn gates_ragged(
     loaded: &[f64],
     widths: &mut [u32],
 ) -> Told
-    ensures { λ r. ⌜ (r, now (widths .exit)) ≡ widthsLeft (raggedAnswer (now (chains .entry)) (now (lengths .entry)) (now (curve .entry)) gamma (drafterOf kind p q x y z) (ratesOf peak bw «kv_delta») (now (loaded .entry)) (now (widths .entry))) ⌝ }
+    ensures { λ r. ⌜ (r, now (widths .exit)) ≡ widthsLeft (raggedAnswer (now (chains .entry)) (now (lengths .entry)) (now (curve .entry)) gamma (drafterOf kind p q x y z) (ratesOf peak bw «kv_delta») (now (loaded .entry)) (modeOf mode) (now (widths .entry))) ⌝ }
 {
     let head = asked::drafter_of(kind, p, q, x, y, z);
     let rates = asked::rates_of(peak, bw, kv_delta);
+    let prices = mode_of(mode);
     let answer = gates::gated_ragged_draft(
         chains,
         lengths,
         curve,
         gamma,
+        prices,
         head,
         rates,
         loaded,
@@ -50,6 +64,7 @@ pub extern "C" fn gates_block(
     lengths: &[u32],
     curve: &[f64],
     gamma: u32,
+    mode: u32,
     kind: u32,
     p: f64,
     q: f64,
@@ -62,15 +77,17 @@ pub extern "C" fn gates_block(
     loaded: &[f64],
     widths: &mut [u32],
 ) -> Told
-    ensures { λ r. ⌜ (r, now (widths .exit)) ≡ widthsLeft (blockAnswer (now (chains .entry)) (now (lengths .entry)) (now (curve .entry)) gamma (drafterOf kind p q x y z) (ratesOf peak bw «kv_delta») (now (loaded .entry)) (now (widths .entry))) ⌝ }
+    ensures { λ r. ⌜ (r, now (widths .exit)) ≡ widthsLeft (blockAnswer (now (chains .entry)) (now (lengths .entry)) (now (curve .entry)) gamma (drafterOf kind p q x y z) (ratesOf peak bw «kv_delta») (now (loaded .entry)) (modeOf mode) (now (widths .entry))) ⌝ }
 {
     let head = asked::drafter_of(kind, p, q, x, y, z);
     let rates = asked::rates_of(peak, bw, kv_delta);
+    let prices = mode_of(mode);
     let answer = gates::gated_block_verify(
         chains,
         lengths,
         curve,
         gamma,
+        prices,
         head,
         rates,
         loaded,

@@ -1,4 +1,5 @@
-// The two gates. The words are those of a batch, as `plan_words::lent_chains` has them.
+// The two gates. The words are those of a batch, as `plan_words::lent_chains` has them, with the mode of the prices behind gamma: 0 Default,
+// any other Bridged. Without its first word such a list has the chains where a batch has them.
 use cases::answers;
 use cases::lists;
 use cases::tally;
@@ -6,23 +7,50 @@ use cases::words;
 use gates::Gated;
 use plan_words::drafters;
 use plan_words::lent_chains;
+use verify_prices::PriceMode;
 ghost use Prim.Native.Nat.{_≤_};
 ghost use lib.ListN.{length};
 
 // What each slot of widths holds before a call.
 const WHOLE_BEFORE: u32 = 0xDEAD_BEEF;
 
+// Where the mode stands, and where the slots that are lent for the widths.
+const MODE: usize = 10;
+
+const ROOM: usize = 11;
+
+// The letters under which the cases of the bridged mode are counted.
+const BRIDGED_RAGGED: u8 = b's';
+
+const BRIDGED_BLOCK: u8 = b'w';
+
 pub fn print(counts: &[u64]) {
     tally::print_kind(counts, b'r', b"gated_ragged_draft");
+    tally::print_kind(counts, BRIDGED_RAGGED, b"gated_ragged_draft bridged");
     tally::print_kind(counts, b'v', b"gated_block_verify");
+    tally::print_kind(counts, BRIDGED_BLOCK, b"gated_block_verify bridged");
+}
+
+// The letter under which a case of a kind is counted.
+pub fn counted_as(kind: u8, input: &[u64]) -> u8 {
+    if words::at(input, MODE) == 0 {
+        return kind;
+    }
+    if kind == b'r' {
+        return BRIDGED_RAGGED;
+    }
+    BRIDGED_BLOCK
 }
 
 // Lends the chains and their lengths.
 pub fn batch(kind: u8, input: &[u64], room: &mut [f64], ours: &mut [u64]) -> usize
     ensures { λ r. ⌜ r ≤ length (now (ours .exit)) ⌝ }
 {
-    let slots = lent_chains::fill(input, room);
-    let place = lent_chains::lengths_at(input);
+    if input.len() == 0 {
+        return 0;
+    }
+    let slots = lent_chains::fill(&input[1..], room);
+    let place = lent_chains::lengths_at(&input[1..]) + 1;
     let mut lengths = [0u32; 1088];
     let n = lists::whole_numbers(input, place, &mut lengths);
     let next = lists::behind(input, place, n);
@@ -69,7 +97,7 @@ fn weigh(
     ensures { λ r. ⌜ r ≤ length (now (ours .exit)) ⌝ }
 {
     let mut widths = [WHOLE_BEFORE; 1088];
-    let room = words::least_at(input, 10, 1088);
+    let room = words::least_at(input, ROOM, 1088);
     gate_in(
         kind,
         input,
@@ -99,6 +127,13 @@ fn gate_in(
     answers::put_whole_numbers(ours, at, widths)
 }
 
+fn mode(input: &[u64]) -> PriceMode {
+    if words::at(input, MODE) == 0 {
+        return PriceMode::Default;
+    }
+    PriceMode::Bridged
+}
+
 fn gate(
     kind: u8,
     input: &[u64],
@@ -109,6 +144,7 @@ fn gate(
     widths: &mut [u32],
 ) -> Gated {
     let gamma = words::whole_at(input, 9);
+    let mode = mode(input);
     let head = drafters::drafter_of(input);
     let rates = drafters::rates_at(input, 6, 7, 8);
     if kind == b'r' {
@@ -117,13 +153,24 @@ fn gate(
             lengths,
             curve,
             gamma,
+            mode,
             head,
             rates,
             loaded,
             widths,
         );
     }
-    gates::gated_block_verify(chains, lengths, curve, gamma, head, rates, loaded, widths)
+    gates::gated_block_verify(
+        chains,
+        lengths,
+        curve,
+        gamma,
+        mode,
+        head,
+        rates,
+        loaded,
+        widths,
+    )
 }
 
 // The refusal, and the slots weighed.

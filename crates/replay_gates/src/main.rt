@@ -77,13 +77,15 @@ fn run(case: Case, words: &[u64], ours: &mut [u64], chains: &mut [f64], counts: 
         return;
     }
     let n = answer(case.kind, &words[0..inputs], chains, ours);
-    judge(case, words, &ours[0..n], counts);
+    let letter = gating::counted_as(case.kind, &words[0..inputs]);
+    judge(case, letter, words, &ours[0..n], counts);
 }
 
-fn judge(case: Case, words: &[u64], ours: &[u64], counts: &mut [u64]) {
+// Counts a case under a letter.
+fn judge(case: Case, letter: u8, words: &[u64], ours: &[u64], counts: &mut [u64]) {
     let agrees = cases::line::agrees(case, words, ours);
     let refused = 0 < cases::words::at(ours, 0);
-    cases::tally::count(counts, case.kind, refused, agrees);
+    cases::tally::count(counts, letter, refused, agrees);
 }
 
 // Puts the words that the entry point of a kind answers, and says how many; a kind that there is not has none.

@@ -11,7 +11,7 @@ pub fn play(input: &[u64], floats: &mut [f64], wholes: &mut [u32], ours: &mut [u
     ensures { λ r. ⌜ r ≤ length (now (ours .exit)) ⌝ }
 {
     let mut storage = [0xDEAD_BEEFu64; 18315];
-    let mut set = [0u64; 32];
+    let mut set = [0u64; 33];
     let at = answers::two(ours, 0, 0);
     play_from(input, at, &mut set, floats, wholes, &mut storage, ours)
 }

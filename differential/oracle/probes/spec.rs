@@ -189,6 +189,16 @@ impl SpecPlanner {
         self.record_depth(end_time, drafted, n)
     }
 
+    /// What a call answers, without the steps that it counts.
+    pub fn uncounted<Answer>(&mut self, call: impl FnOnce(&mut Self) -> Answer) -> Answer {
+        let buckets = std::mem::take(&mut self.depth_buckets);
+        let current = self.depth_current.take();
+        let answer = call(self);
+        self.depth_buckets = buckets;
+        self.depth_current = current;
+        answer
+    }
+
     /// (second, drafts, sequences, steps) of every second held, ascending.
     pub fn sums(&self) -> Vec<(u64, u64, u64, u64)> {
         let mut buckets = self.depth_buckets.clone();

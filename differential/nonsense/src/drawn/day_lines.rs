@@ -1,6 +1,6 @@
 //! Lines of a day file.
 use crate::drawn::texts::{any, spoiled};
-use crate::readings::day_lines::{ACCEPTANCES, COMMANDS, DRAFTERS, POLICIES};
+use crate::readings::day_lines::{ACCEPTANCES, COMMANDS, DRAFTERS, POLICIES, PRICES};
 use crate::turn::{Mixture, Turn};
 use numbers::dice::Dice;
 use numbers::field_texts::field_of;
@@ -27,6 +27,8 @@ const LINES: &[&str] = &[
     "roofline,l",
     "table,f",
     "loaded,l",
+    "prices,default",
+    "prices,bridged",
     "plan,w,w,d,w,l",
     "plan,w,w,d,w,i",
     "collect,w,w",
@@ -122,10 +124,11 @@ fn mixed(dice: &mut Dice) -> Vec<u8> {
 
 /// A name that some list has.
 fn name(dice: &mut Dice) -> Vec<u8> {
-    let names: &[&str] = match dice.below(4) {
+    let names: &[&str] = match dice.below(5) {
         0 => &POLICIES,
         1 => &ACCEPTANCES,
         2 => &DRAFTERS,
+        3 => &PRICES,
         _ => return dice.pick(&COMMANDS).0.as_bytes().to_vec(),
     };
     dice.pick(names).as_bytes().to_vec()
@@ -163,8 +166,8 @@ pub fn line(turn: &mut Turn) -> Vec<u8> {
 /// Letters of a shape; a letter that stands for nothing among them.
 pub fn shape(turn: &mut Turn) -> Vec<u8> {
     let known: &[&[u8]] = &[
-        b"tw", b"tp", b"ttd", b"tt*", b"ttt", b"ttddwww", b"ttdw", b"tt", b"twnd", b"tddd", b"t*",
-        b"twwdw*", b"tww", b"t",
+        b"tw", b"tp", b"tm", b"ttd", b"tt*", b"ttt", b"ttddwww", b"ttdw", b"tt", b"twnd", b"tddd",
+        b"t*", b"twwdw*", b"tww", b"t",
     ];
     let dice = &mut turn.dice;
     match turn.mixture {
@@ -173,7 +176,7 @@ pub fn shape(turn: &mut Turn) -> Vec<u8> {
         Mixture::Damaged => spoiled(dice.pick(known).to_vec(), dice),
         Mixture::Special => {
             let count = dice.between(0, 8);
-            (0..count).map(|_| dice.pick(b"twdnp*ttwd*x")).collect()
+            (0..count).map(|_| dice.pick(b"twdnpm*ttwd*x")).collect()
         }
     }
 }

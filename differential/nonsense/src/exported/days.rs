@@ -21,6 +21,7 @@ unsafe extern "C" {
     fn day_names_policy_of(name: *const u8, len: usize) -> u64;
     fn day_names_acceptance_of(name: *const u8, len: usize) -> u64;
     fn day_names_drafter_of(name: *const u8, len: usize) -> u64;
+    fn day_names_prices_of(name: *const u8, len: usize) -> u64;
     fn day_names_is_none(name: *const u8, len: usize) -> bool;
     fn day_shapes_shape_judged(line: *const u8, len: usize, shape: *const u8, n: usize) -> Told;
     fn day_fields_line_judged(line: *const u8, len: usize) -> Told;
@@ -109,6 +110,13 @@ fn of_names() -> Vec<Box<dyn Function>> {
             any_name,
             day_names_drafter_of,
             |name| named(&defined::DRAFTERS, name),
+        ),
+        alone(
+            "day_names_prices_of",
+            &[],
+            any_name,
+            day_names_prices_of,
+            |name| named(&defined::PRICES, name),
         ),
         alone(
             "day_names_is_none",

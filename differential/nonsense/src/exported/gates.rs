@@ -5,8 +5,10 @@ use crate::exported::batches::{rates, Buffers};
 use crate::exported::{compare, exported_twice, Told};
 use crate::function::{plain, Function};
 use crate::lent::Lent;
+use numbers::dice::Dice;
 use oracle::plans::batch::Batch;
 use oracle::plans::gate::{Chosen, Gate};
+use oracle::plans::verify_price::Mode;
 
 // Of each list the address of a lent buffer and its length.
 exported_twice!(Gating: gates_ragged, gates_block(
@@ -17,6 +19,7 @@ exported_twice!(Gating: gates_ragged, gates_block(
     curve: *const f64,
     curve_len: usize,
     gamma: u32,
+    mode: u32,
     kind: u32,
     p: f64,
     q: f64,
@@ -40,18 +43,38 @@ pub fn functions() -> Vec<Box<dyn Function>> {
 }
 
 /// What was met of a gate.
-fn met(chosen: &Result<Chosen, u8>) -> Option<&'static str> {
+fn met(mode: Mode, chosen: &Result<Chosen, u8>) -> Option<&'static str> {
     let chosen = chosen.as_ref().ok()?;
     let has_drafts = chosen.widths.iter().any(|&width| width > 0);
-    Some(match (chosen.weighed, has_drafts) {
-        (0, _) => "nothing weighed",
-        (_, true) => "slots kept",
-        (_, false) => "no slot kept",
+    Some(match (mode, chosen.weighed, has_drafts) {
+        (Mode::Default, 0, _) => "nothing weighed",
+        (Mode::Default, _, true) => "slots kept",
+        (Mode::Default, _, false) => "no slot kept",
+        (Mode::Bridged, 0, true) => "bridged all drafted unweighed",
+        (Mode::Bridged, 0, false) => "bridged nothing weighed",
+        (Mode::Bridged, _, true) => "bridged slots kept",
+        (Mode::Bridged, _, false) => "bridged no slot kept",
     })
 }
 
+/// The mode as it crosses: 0 is the default, any other number bridged.
+fn drawn_mode(dice: &mut Dice) -> (u32, Mode) {
+    let any = dice.bits() as u32;
+    match dice.pick(&[0, 0, 0, 1, 1, 2, u32::MAX, any]) {
+        0 => (0, Mode::Default),
+        number => (number, Mode::Bridged),
+    }
+}
+
 /// What a gate answers over the buffers; the widths are written.
-fn gated(call: Gating, batch: &Batch, c: Crossing, lent: &Buffers, widths: &mut Lent<u32>) -> Told {
+fn gated(
+    call: Gating,
+    batch: &Batch,
+    mode: u32,
+    c: Crossing,
+    lent: &Buffers,
+    widths: &mut Lent<u32>,
+) -> Told {
     let [peak, bw, kv_delta] = rates(batch);
     let Buffers {
         chains,
@@ -69,6 +92,7 @@ fn gated(call: Gating, batch: &Batch, c: Crossing, lent: &Buffers, widths: &mut 
             curve.floats(),
             curve.len(),
             batch.gamma,
+            mode,
             c.kind,
             c.p,
             c.q,
@@ -91,12 +115,14 @@ fn gate(name: &'static str, call: Gating, choose: fn(&Gate) -> Chosen) -> Box<dy
     plain(name, &[11, 12, 15, 16], move |turn| {
         let batch = batch(|batch| batch.n(), turn);
         let crossing = Crossing::of(batch.drafter, &mut turn.dice);
+        let (number, mode) = drawn_mode(&mut turn.dice);
         let mut left: Vec<u32> = (0..batch.room).map(|_| turn.dice.bits() as u32).collect();
+        turn.tell("mode", number);
         lent.lend(&batch, turn);
         turn.lend("widths", &mut widths, &left);
-        let answered = gated(call, &batch, crossing, &lent, &mut widths);
-        let chosen = batch.chosen(choose);
-        turn.shape = met(&chosen);
+        let answered = gated(call, &batch, number, crossing, &lent, &mut widths);
+        let chosen = batch.chosen(mode, choose);
+        turn.shape = met(mode, &chosen);
         if let Ok(chosen) = &chosen {
             left[..chosen.widths.len()].copy_from_slice(&chosen.widths);
         }

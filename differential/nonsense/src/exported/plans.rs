@@ -68,6 +68,7 @@ fn world(inputs: &Inputs) -> World {
     settings.model = settings.model.min(2);
     settings.drafter = settings.drafter.min(2);
     settings.steps = settings.steps.min(1);
+    settings.prices = settings.prices.min(1);
     ask.source = ask.source.min(1);
     world_of(&settings, &ask, inputs.lists.clone()).expect("numbers that stand for cases")
 }

@@ -20,6 +20,7 @@ pub struct Settings {
     pub experts_per_tok: u32,
     pub shared_experts: u32,
     pub block: u32,
+    pub prices: u32,
 }
 
 #[repr(C)]

@@ -174,6 +174,7 @@ fn mixed(settings: Settings, bits: Bits, dice: &mut Dice) -> Settings {
         model: settings.model,
         drafter: settings.drafter,
         steps: settings.steps,
+        prices: settings.prices,
         ..any
     }
 }
@@ -198,11 +199,12 @@ fn other_ask(ask: Ask, bits: Bits, dice: &mut Dice) -> Ask {
 /// A number that may stand for no case.
 fn hurt_case(inputs: &mut Inputs, dice: &mut Dice) {
     let number = dice.pick(&[2, 3, 4, u32::MAX]);
-    match dice.below(5) {
+    match dice.below(6) {
         0 => inputs.settings.policy = number,
         1 => inputs.settings.model = number,
         2 => inputs.settings.drafter = number,
         3 => inputs.settings.steps = number,
+        4 => inputs.settings.prices = number,
         _ => inputs.ask.source = number,
     }
     if let Some(drafter) = super::settings::drafter_of(&inputs.settings) {

@@ -1,4 +1,5 @@
-//! What a plan answers and leaves, by the rules' plan order, the unchanged Rust and the ledger's words.
+//! What a plan answers and leaves, by the rules' plan order, the unchanged Rust, the second reading of the
+//! bridged gates and the ledger's words.
 use super::declared::Planned;
 use super::plan_inputs::Inputs;
 use super::plans::Words;
@@ -9,9 +10,8 @@ use numbers::second::second;
 use oracle::planners::judge::{is_constrained, judged, Judged};
 use oracle::planners::plan::{Plan, Planned as OfRust};
 use oracle::planners::unchanged::Unchanged;
-use oracle::planners::world::Policy;
+use oracle::planners::world::{Policy, World};
 use oracle::simulation::spec::probe::Record;
-use std::rc::Rc;
 
 /// What the plan answers, and what it leaves in the words and the slots.
 pub fn defined(
@@ -65,7 +65,7 @@ fn made(plan: &Plan, words: &mut [u64], slots: &mut [Vec<u32>; 2], turn: &mut Tu
     let put = put.map(|record| (plan.a, plan.b, record_of(record)));
     let all = drafts.iter().map(|&draft| u64::from(draft)).sum();
     calls::plan(words, second(plan.end), all, plan.sequences.into(), put);
-    turn.shape = Some(shape_of(plan.world.policy, is_put));
+    turn.shape = Some(shape_of(&plan.world, is_put));
     Planned {
         refusal: 0,
         used: used as usize,
@@ -81,10 +81,11 @@ fn record_of((width, rounds, stall): Record) -> workers::Record {
     }
 }
 
-fn shape_of(policy: Policy, is_put: bool) -> &'static str {
-    match policy {
+fn shape_of(world: &World, is_put: bool) -> &'static str {
+    match world.policy {
         Policy::Fixed => "Fixed",
         Policy::GoodputBudget => "GoodputBudget",
+        Policy::GatedBudget if world.is_bridged() => "GatedBudget bridged",
         Policy::GatedBudget => "GatedBudget",
         Policy::GatedAggregate if is_put => "GatedAggregate constrained",
         Policy::GatedAggregate => "GatedAggregate",

@@ -77,12 +77,13 @@ fn asked(mixture: Mixture, dice: &mut Dice) -> Asked {
 fn any(bits: &mut dyn FnMut(&mut Dice) -> u64, dice: &mut Dice) -> Asked {
     let mut settings = settings_bits(bits, dice);
     if dice.once_in(2) {
-        let few = [4, 3, 3, 2].map(|end| dice.below(end) as u32);
+        let few = [4, 3, 3, 2, 2].map(|end| dice.below(end) as u32);
         [
             settings.policy,
             settings.model,
             settings.drafter,
             settings.steps,
+            settings.prices,
         ] = few;
     }
     let rates = [0; 3].map(|_| bits(dice));
@@ -127,16 +128,17 @@ fn good(dice: &mut Dice) -> Asked {
 
 fn hurt(asked: &mut Asked, dice: &mut Dice) {
     let special = dice.pick(SPECIALS);
-    match dice.below(10) {
+    match dice.below(11) {
         0 => asked.settings.policy = dice.pick(&[3, 4, u32::MAX]),
         1 => asked.settings.drafter = dice.pick(&[0, 1, 2, 3, u32::MAX]),
         2 => asked.settings.steps = dice.pick(&[1, 2, u32::MAX]),
-        3 => asked.verify_c = special,
-        4 => asked.rates.peak = special,
-        5 => asked.rates.bw = special,
-        6 => asked.widths.resize(dice.pick(&[0, 1, 1_024, 1_025]), 1),
-        7 => drop(asked.loaded.pop()),
-        8 if !asked.widths.is_empty() => {
+        3 => asked.settings.prices = dice.pick(&[1, 2, u32::MAX]),
+        4 => asked.verify_c = special,
+        5 => asked.rates.peak = special,
+        6 => asked.rates.bw = special,
+        7 => asked.widths.resize(dice.pick(&[0, 1, 1_024, 1_025]), 1),
+        8 => drop(asked.loaded.pop()),
+        9 if !asked.widths.is_empty() => {
             let at = dice.between(0, asked.widths.len() - 1);
             asked.widths[at] = dice.pick(&[64, 65, u32::MAX]);
         }

@@ -4,11 +4,12 @@ use numbers::dice::Dice;
 use oracle::drafter::{Drafter, Rates};
 use oracle::model::{Kind, KINDS};
 use oracle::planners::world::{World, POLICIES};
+use oracle::plans::verify_price::MODES;
 
 /// All fields from some bits.
 pub fn settings_bits(bits: &mut dyn FnMut(&mut Dice) -> u64, dice: &mut Dice) -> Settings {
     let floats = [0; 6].map(|_| f64::from_bits(bits(dice)));
-    let wholes = [0; 11].map(|_| bits(dice) as u32);
+    let wholes = [0; 12].map(|_| bits(dice) as u32);
     Settings {
         alpha: floats[0],
         cost_ms: floats[1],
@@ -27,6 +28,7 @@ pub fn settings_bits(bits: &mut dyn FnMut(&mut Dice) -> u64, dice: &mut Dice) ->
         experts_per_tok: wholes[8],
         shared_experts: wholes[9],
         block: wholes[10],
+        prices: wholes[11],
     }
 }
 
@@ -36,6 +38,7 @@ pub fn settings_of_drafter(drafter: Drafter, dice: &mut Dice) -> Settings {
     settings.policy = dice.below(4) as u32;
     settings.model = dice.below(3) as u32;
     settings.steps = dice.below(2) as u32;
+    settings.prices = dice.below(2) as u32;
     match drafter {
         Drafter::Fraction { frac } => {
             settings.drafter = 0;
@@ -66,7 +69,7 @@ pub fn settings_of_drafter(drafter: Drafter, dice: &mut Dice) -> Settings {
 
 /// The drafter of settings whose numbers of cases all stand for one.
 pub fn drafter_of(settings: &Settings) -> Option<Drafter> {
-    if settings.policy > 3 || settings.model > 2 || settings.steps > 1 {
+    if settings.policy > 3 || settings.model > 2 || settings.steps > 1 || settings.prices > 1 {
         return None;
     }
     match settings.drafter {
@@ -103,6 +106,7 @@ pub fn settings_of(world: &World, dice: &mut Dice) -> Settings {
         settings.max_step = step;
     }
     settings.cost_ms = f64::from_bits(world.cost_ms);
+    settings.prices = world.prices as u32;
     settings
 }
 
@@ -126,6 +130,7 @@ pub fn world_of(settings: &Settings, ask: &Ask, lists: [Vec<u64>; 9]) -> Option<
         cooldown: settings.cooldown_rounds,
         max_step: (settings.steps == 1).then_some(settings.max_step),
         cost_ms: settings.cost_ms.to_bits(),
+        prices: MODES[settings.prices as usize],
         has_table: ask.source == 1,
         rows: ask.rows as u64,
         depth: ask.depth,

@@ -14,7 +14,7 @@ pub fn field_of(line: &[u8], place: usize) -> &[u8] {
 }
 
 /// The names of the commands, in the order of their numbers; `series,bits` is apart from them.
-pub const COMMANDS: [(&str, u64); 14] = [
+pub const COMMANDS: [(&str, u64); 15] = [
     ("gamma", 1),
     ("policy", 2),
     ("acceptance", 3),
@@ -24,19 +24,21 @@ pub const COMMANDS: [(&str, u64); 14] = [
     ("roofline", 7),
     ("table", 8),
     ("loaded", 9),
-    ("plan", 10),
-    ("collect", 11),
-    ("withdraw", 12),
-    ("series", 13),
-    ("day", 15),
+    ("prices", 10),
+    ("plan", 11),
+    ("collect", 12),
+    ("withdraw", 13),
+    ("series", 14),
+    ("day", 16),
 ];
 pub const NOTHING: u64 = 0;
-pub const SERIES_BITS: u64 = 14;
-pub const NO_COMMAND: u64 = 16;
+pub const SERIES_BITS: u64 = 15;
+pub const NO_COMMAND: u64 = 17;
 
 pub const POLICIES: [&str; 4] = ["fixed", "goodput_budget", "gated_budget", "gated_aggregate"];
 pub const ACCEPTANCES: [&str; 3] = ["constant", "per_position", "trace"];
 pub const DRAFTERS: [&str; 4] = ["fraction", "autoregressive", "block_parallel", "none"];
+pub const PRICES: [&str; 2] = ["default", "bridged"];
 
 /// The number of the command that a line gives.
 pub fn command(line: &[u8]) -> u64 {
@@ -115,7 +117,8 @@ mod tests {
         assert_eq!(command(b" # gamma"), NOTHING);
         assert_eq!(command(b"gamma ,4#"), 1);
         assert_eq!(command(b"series, bits,x"), SERIES_BITS);
-        assert_eq!(command(b"series,bit"), 13);
+        assert_eq!(command(b"series,bit"), 14);
+        assert_eq!(command(b"prices,bridged"), 10);
         assert_eq!(command(b","), NO_COMMAND);
         assert_eq!(named(&POLICIES, b"gated_budget"), 2);
         assert_eq!(named(&POLICIES, b"gated"), 4);

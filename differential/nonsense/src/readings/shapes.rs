@@ -1,6 +1,6 @@
 //! What the fields of a day file's line have to be: a shape has a letter for each of them.
 use crate::readings::day_lines::{command, field_of, named, uncommented};
-use crate::readings::day_lines::{ACCEPTANCES, DRAFTERS, POLICIES};
+use crate::readings::day_lines::{ACCEPTANCES, DRAFTERS, POLICIES, PRICES};
 use numbers::lines::{fields, trimmed};
 use numbers::reading;
 
@@ -15,14 +15,16 @@ pub struct Wrong {
 /// field is expected.
 fn field_wrong(letter: Option<u8>, field: &[u8]) -> u64 {
     let refused = |read: Result<u64, u8>| read.map_or_else(u64::from, |_| 0);
+    let is_of = |names: &[&str]| names.iter().any(|name| name.as_bytes() == field);
     match letter {
         Some(b't' | b'*') => 0,
         Some(b'w') => refused(reading::whole(field)),
         Some(b'd') => refused(reading::decimal(field)),
         Some(b'n') if field == b"none" => 0,
         Some(b'n') => refused(reading::whole(field)),
-        Some(b'p') if POLICIES.iter().any(|name| name.as_bytes() == field) => 0,
-        Some(b'p') => 3,
+        Some(b'p') if is_of(&POLICIES) => 0,
+        Some(b'm') if is_of(&PRICES) => 0,
+        Some(b'p' | b'm') => 3,
         _ => 2,
     }
 }
@@ -74,10 +76,11 @@ fn shape(line: &[u8]) -> Result<&'static str, Wrong> {
         5 => "twnd",
         6 => "tddd",
         7 | 9 => "t*",
-        8 | 14 => "tt",
-        10 => "twwdw*",
-        11 => "tww",
-        12 | 13 | 15 => "t",
+        8 | 15 => "tt",
+        10 => "tm",
+        11 => "twwdw*",
+        12 => "tww",
+        13 | 14 | 16 => "t",
         _ => return unnamed(0, 8),
     })
 }
@@ -109,6 +112,9 @@ mod tests {
         assert_eq!(of("switch,1,none,0.5"), (0, 0));
         assert_eq!(of("switch,1,no,0.5"), (2, 5));
         assert_eq!(of("policy,gated"), (1, 3));
+        assert_eq!(of("prices, bridged"), (0, 0));
+        assert_eq!(of("prices,bridge"), (1, 3));
+        assert_eq!(of("prices"), (1, 1));
         assert_eq!(of("drafter,none,1"), (2, 2));
         assert_eq!(of("drafter,some"), (1, 3));
         assert_eq!(of("plan,1,2,3.5,4,what,ever"), (0, 0));

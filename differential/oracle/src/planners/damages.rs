@@ -4,6 +4,7 @@ use crate::drafter::Drafter;
 use crate::drafter_values::{with_constant_loaded, COUNTS, SPECIALS};
 use crate::planners::plan::{Plan, ROOM};
 use crate::planners::world::*;
+use crate::plans::verify_price::MODES;
 use numbers::dice::Dice;
 use std::rc::Rc;
 
@@ -13,6 +14,10 @@ const INFINITE: &[u64] = &[
     0xfff0_0000_0000_0000,
     0x7ff8_0000_0000_0000,
 ];
+
+/// A longer list is the same few draws again and again. With another among them it would have to be
+/// written out, and is too long for a case.
+const MOST_DRAWS: usize = 10_000;
 
 /// How many sorts of damage there are, some of them alike.
 pub const SORTS: u64 = 20;
@@ -53,6 +58,7 @@ fn hurt(plan: &mut Plan, world: &mut World, sort: u64, dice: &mut Dice) {
         8..=11 => hurt_values(world, dice),
         12..=14 => hurt_draws(plan, world, dice),
         15 | 16 => put(&mut world.lists[SIGNALS], INFINITE, dice),
+        17 if dice.once_in(4) => world.prices = dice.pick(&MODES),
         17 => world.policy = dice.pick(&POLICIES),
         18 => world.has_table = !world.has_table,
         _ => hurt_table(world, dice),
@@ -174,6 +180,9 @@ fn hurt_draws(plan: &mut Plan, world: &World, dice: &mut Dice) {
             let past = [rounds, rounds + 1, u32::MAX.into()];
             put(&mut plan.indices, &past, dice)
         }
-        _ => put(&mut plan.draws, SPECIALS, dice),
+        _ => {
+            plan.draws.truncate(MOST_DRAWS);
+            put(&mut plan.draws, SPECIALS, dice)
+        }
     }
 }

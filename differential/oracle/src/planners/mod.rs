@@ -1,5 +1,6 @@
 //! Whole plans: what they are asked with and lent, whole and damaged, the first refusal of one, and the
 //! unchanged Rust's planner asked with it.
+pub mod bridged;
 pub mod damages;
 pub mod judge;
 pub mod plan;

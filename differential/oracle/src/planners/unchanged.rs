@@ -1,12 +1,16 @@
-//! The unchanged Rust's planner, asked with what a plan is lent.
+//! The unchanged Rust's planner, asked with what a plan is lent. Where prices are bridged, the drafts are
+//! those of the second reading, and the planner counts them.
 use crate::compute::measured::probe;
 use crate::compute::MeasuredCostTable;
 use crate::config::{GammaPolicy, SpeculativeConfig, SwitchConstraints, TraceBank, TraceRound};
 use crate::drafter::Drafter;
 use crate::lent_model::loaded_reads;
 use crate::model::Model;
+use crate::planners::bridged::Gating;
 use crate::planners::plan::{Plan, Planned};
 use crate::planners::world::*;
+use crate::plans::gate::Chosen;
+use crate::plans::verify_price::Mode;
 use crate::request::Request;
 use crate::simulation::spec::{PlanCosts, SpecPlanner};
 use crate::unchanged::{acceptance, any_config, cost_of, floats, lend_loaded};
@@ -30,34 +34,37 @@ impl Unchanged {
     /// Makes a plan that the rules do not refuse.
     pub fn plan(&mut self, plan: &Plan) -> Planned {
         self.come_under(&plan.world);
-        let world = &*plan.world;
-        let n = plan.sequences as usize;
-        if world.policy != Policy::Fixed {
-            let read = world.lists[LOADED].len().min(n + 1);
-            lend_loaded(world.drafter, &world.lists[LOADED][..read]);
+        if plan.world.is_bridged() {
+            return self.bridged(plan);
         }
-        let indices: Vec<usize> = plan.indices.iter().map(|&index| index as usize).collect();
-        rand::lend(&floats(&plan.draws), &indices);
-        let costs = PlanCosts {
-            roofline: &|g| f64::from_bits(world.lists[ROOFLINE][g as usize]),
-            kv_delta: f64::from_bits(world.rates.kv_delta),
-            peak: f64::from_bits(world.rates.peak),
-            bw: f64::from_bits(world.rates.bw),
-        };
-        let worker = (plan.a as usize, plan.b as usize);
-        let requests = vec![&Request; n];
-        take_pops();
-        let end = f64::from_bits(plan.end);
-        let plans = self.planner.plan(worker, &requests, &costs, end);
-        let weighed = take_pops();
-        let used = rand::used();
-        assert_eq!((used.absent, used.out_of_range), (0, 0), "{plan:x?}");
-        assert_eq!(loaded_reads().1, 0, "past the loaded experts: {plan:x?}");
-        Planned::Plan {
-            used: (used.floats + used.indices) as u64,
+        planned(&mut self.planner, plan)
+    }
+
+    /// The Rust makes it by default and counts nothing: draws and commits are its own, since no gate has
+    /// a part in them. What it drafts by default is also what the second reading does.
+    fn bridged(&mut self, plan: &Plan) -> Planned {
+        let by_default = self.planner.uncounted(|planner| planned(planner, plan));
+        let Planned::Plan {
+            used,
             weighed,
-            drafts: plans.iter().map(|plan| plan.draft_len).collect(),
-            commits: plans.iter().map(|plan| plan.commits).collect(),
+            drafts: widths,
+            commits,
+        } = by_default
+        else {
+            unreachable!("the Rust refuses nothing");
+        };
+        let gating = Gating::of(plan, self.planner.measured_cost());
+        let read = gating.chosen(Mode::Default);
+        assert_eq!(read, Chosen { widths, weighed }, "{plan:x?}");
+        let Chosen { widths, weighed } = gating.chosen(Mode::Bridged);
+        let all = widths.iter().map(|&width| u64::from(width)).sum();
+        let end = f64::from_bits(plan.end);
+        self.planner.count_step(end, all, widths.len());
+        Planned::Plan {
+            used,
+            weighed,
+            drafts: widths,
+            commits,
         }
     }
 
@@ -73,6 +80,39 @@ impl Unchanged {
         let planner = std::mem::replace(&mut self.planner, emptied);
         self.planner = planner.under(config(world), bank(world), table(world));
         self.world = Some(Rc::clone(world));
+    }
+}
+
+/// What a planner of the Rust plans under the settings that it has.
+fn planned(planner: &mut SpecPlanner, plan: &Plan) -> Planned {
+    let world = &*plan.world;
+    let n = plan.sequences as usize;
+    if world.policy != Policy::Fixed {
+        let read = world.lists[LOADED].len().min(n + 1);
+        lend_loaded(world.drafter, &world.lists[LOADED][..read]);
+    }
+    let indices: Vec<usize> = plan.indices.iter().map(|&index| index as usize).collect();
+    rand::lend(&floats(&plan.draws), &indices);
+    let costs = PlanCosts {
+        roofline: &|g| f64::from_bits(world.lists[ROOFLINE][g as usize]),
+        kv_delta: f64::from_bits(world.rates.kv_delta),
+        peak: f64::from_bits(world.rates.peak),
+        bw: f64::from_bits(world.rates.bw),
+    };
+    let worker = (plan.a as usize, plan.b as usize);
+    let requests = vec![&Request; n];
+    take_pops();
+    let end = f64::from_bits(plan.end);
+    let plans = planner.plan(worker, &requests, &costs, end);
+    let weighed = take_pops();
+    let used = rand::used();
+    assert_eq!((used.absent, used.out_of_range), (0, 0), "{plan:x?}");
+    assert_eq!(loaded_reads().1, 0, "past the loaded experts: {plan:x?}");
+    Planned::Plan {
+        used: (used.floats + used.indices) as u64,
+        weighed,
+        drafts: plans.iter().map(|plan| plan.draft_len).collect(),
+        commits: plans.iter().map(|plan| plan.commits).collect(),
     }
 }
 

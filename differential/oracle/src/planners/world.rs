@@ -2,6 +2,7 @@
 //! pattern, and lists of any length: what is wrong with it is for `judge` to say.
 use crate::drafter::{Drafter, Rates};
 use crate::model::Kind;
+use crate::plans::verify_price::Mode;
 
 #[derive(Clone, Copy, Debug, PartialEq, Eq)]
 pub enum Policy {
@@ -41,6 +42,8 @@ pub struct World {
     pub cooldown: u32,
     pub max_step: Option<u32>,
     pub cost_ms: u64,
+    /// Of use to GatedBudget alone.
+    pub prices: Mode,
     pub has_table: bool,
     /// The rows of the table, and the depth and the rounds of the bank.
     pub rows: u64,
@@ -49,8 +52,11 @@ pub struct World {
     pub lists: [Vec<u64>; 9],
 }
 
+/// The register of the price mode. Between it and the others are those of the lists' lengths.
+pub const MODE_REGISTER: u64 = 32;
+
 impl World {
-    /// The words that a case sets the registers to.
+    /// The words that a case sets the registers to, from the first on.
     pub fn registers(&self) -> Vec<u64> {
         let switch = [
             self.cooldown.into(),
@@ -74,6 +80,11 @@ impl World {
             &sources,
         ]
         .concat()
+    }
+
+    /// Whether its plans are gated in a way that the Rust does not know.
+    pub fn is_bridged(&self) -> bool {
+        self.policy == Policy::GatedBudget && self.prices == Mode::Bridged
     }
 
     pub fn is_trace(&self) -> bool {

@@ -6,6 +6,7 @@ use crate::planners::plan::{Plan, ROOM, WHOLE};
 use crate::planners::world::*;
 use crate::plans::batches::chance;
 use crate::plans::prices::{loaded, put_holes, Pricing};
+use crate::plans::verify_price::{Mode, MODES};
 use numbers::dice::Dice;
 use std::rc::Rc;
 
@@ -80,6 +81,7 @@ pub fn world(shape: Shape, policy: Policy, dice: &mut Dice) -> World {
         cooldown: 0,
         max_step: None,
         cost_ms: 0,
+        prices: dice.pick(&MODES),
         has_table: dice.once_in(3),
         rows: 0,
         depth: 0,
@@ -150,7 +152,11 @@ fn set_lists(world: &mut World, shape: Shape, pricing: &Pricing, dice: &mut Dice
     if !world.has_table || dice.once_in(8) {
         let count = shape.gamma as usize + 1 + dice.pick(&[0, 0, 2]);
         world.lists[ROOFLINE] = pricing.curve(count, dice);
-        if dice.once_in(3) {
+        let holes = match world.prices {
+            Mode::Default => 3,
+            Mode::Bridged => 2,
+        };
+        if dice.once_in(holes) {
             put_holes(&mut world.lists[ROOFLINE], dice);
         }
     }

@@ -5,6 +5,7 @@ use crate::plans::gate::{Chosen, Gate};
 use crate::plans::goodput::{expected, Costs};
 use crate::plans::prices::{is_deep, INFINITY, MINUS_ZERO};
 use crate::plans::unchanged;
+use crate::plans::verify_price::Mode;
 use crate::range::in_range_or_infinite;
 use crate::unchanged::floats;
 use numbers::word_case::{bits_of, listed, WordCase};
@@ -20,8 +21,17 @@ pub const FLOAT_BEFORE: u64 = 0x4045_0000_0000_0000;
 pub enum Asked {
     Expected,
     Depth,
-    Ragged,
-    Block,
+    Ragged(Mode),
+    Block(Mode),
+}
+
+impl Asked {
+    fn is_bridged(self) -> bool {
+        matches!(
+            self,
+            Asked::Ragged(Mode::Bridged) | Asked::Block(Mode::Bridged)
+        )
+    }
 }
 
 /// All that a batch is asked with, floats by their bits.
@@ -47,8 +57,12 @@ impl Batch {
         let case = match asked {
             Asked::Expected => self.expected(),
             Asked::Depth => self.depth(),
-            Asked::Ragged => self.gate(b'r', |gate| gate.ragged(), unchanged::Asked::ragged),
-            Asked::Block => self.gate(b'v', |gate| gate.block(), unchanged::Asked::block),
+            Asked::Ragged(mode) => {
+                self.gate(b'r', mode, |gate| gate.ragged(), unchanged::Asked::ragged)
+            }
+            Asked::Block(mode) => {
+                self.gate(b'v', mode, |gate| gate.block(), unchanged::Asked::block)
+            }
         };
         case.with_traits(&[
             ("deep", is_deep(self.gamma)),
@@ -58,15 +72,19 @@ impl Batch {
             ),
             ("with holes", self.prices().contains(&INFINITY)),
             ("minus zero", self.chains.rows.contains(&MINUS_ZERO)),
+            ("bridged", asked.is_bridged()),
         ])
     }
 
-    fn words(&self) -> Vec<u64> {
-        let sizes = [u64::from(self.gamma), self.room as u64];
+    /// The words, of a gate with its mode behind gamma.
+    fn words(&self, mode: Option<Mode>) -> Vec<u64> {
+        let mode = mode.map(|mode| mode as u64);
         [
             &self.drafter.words()[..],
             &self.rates.words(),
-            &sizes,
+            &[self.gamma.into()],
+            mode.as_slice(),
+            &[self.room as u64],
             &self.chains.words(),
             &listed(self.lengths.iter().map(|&length| length.into())),
             &listed(self.curve.iter().copied()),
@@ -129,7 +147,7 @@ impl Batch {
             answer.extend(values);
         }
         answer.resize(1 + self.room, FLOAT_BEFORE);
-        WordCase::new(b'e', self.words(), answer)
+        WordCase::new(b'e', self.words(None), answer)
     }
 
     /// 12, then 11, then 16, then 15; `are_widths`: whether there is room for what is written.
@@ -163,30 +181,44 @@ impl Batch {
             assert_eq!(depth, self.unchanged().depth(&chains), "{self:x?}");
         });
         let answer = answer.map_or_else(|number| [number.into(), 0], |depth| [0, depth.into()]);
-        WordCase::new(b'a', self.words(), answer.to_vec())
+        WordCase::new(b'a', self.words(None), answer.to_vec())
     }
 
     /// What a gate chooses, or the refusal's number.
-    pub fn chosen(&self, choose: fn(&Gate) -> Chosen) -> Result<Chosen, u8> {
+    pub fn chosen(&self, mode: Mode, choose: fn(&Gate) -> Chosen) -> Result<Chosen, u8> {
         self.judged(self.n() <= self.room)?;
         let chains = self.chains.floats(&self.lengths);
         Ok(choose(&Gate {
             chains: &chains,
             prices: &floats(self.prices()),
+            mode,
             depth: self.best(&chains),
             costs: self.costs(),
         }))
     }
 
+    /// Whether a gate meets the same prices in both modes: there is no hole, and the mean width stays
+    /// below gamma, since the best depth or a chain does.
+    fn is_alike_in_both_modes(&self, chains: &[Vec<f64>]) -> bool {
+        let is_shorter = |&length: &u32| length < self.gamma;
+        let is_below = self.best(chains) < self.gamma || self.lengths.iter().any(is_shorter);
+        is_below && !self.prices().contains(&INFINITY)
+    }
+
+    /// By default what is chosen is what the Rust chooses. Bridged there is no Rust but where the modes
+    /// are alike.
     fn gate(
         &self,
         letter: u8,
+        mode: Mode,
         ours: fn(&Gate) -> Chosen,
         rust: fn(&unchanged::Asked, &[Vec<f64>]) -> Chosen,
     ) -> WordCase {
-        let chosen = self.chosen(ours).inspect(|chosen| {
+        let chosen = self.chosen(mode, ours).inspect(|chosen| {
             let chains = self.chains.floats(&self.lengths);
-            assert_eq!(*chosen, rust(&self.unchanged(), &chains), "{self:x?}");
+            if mode == Mode::Default || self.is_alike_in_both_modes(&chains) {
+                assert_eq!(*chosen, rust(&self.unchanged(), &chains), "{self:x?}");
+            }
         });
         let mut answer = match chosen {
             Ok(chosen) => {
@@ -196,6 +228,6 @@ impl Batch {
             Err(number) => vec![number.into(), 0],
         };
         answer.resize(2 + self.room, WHOLE_BEFORE);
-        WordCase::new(letter, self.words(), answer)
+        WordCase::new(letter, self.words(Some(mode)), answer)
     }
 }

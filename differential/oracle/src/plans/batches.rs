@@ -122,6 +122,16 @@ fn lengths(n: usize, width: usize, dice: &mut Dice) -> Vec<u32> {
 
 /// A batch in which nothing is refused, but for sizes that are passed; a third of the curves has holes.
 pub fn whole(shape: Shape, dice: &mut Dice) -> Batch {
+    let holes = |curve: &mut [u64], dice: &mut Dice| {
+        if dice.once_in(3) {
+            put_holes(curve, dice);
+        }
+    };
+    with_holes(shape, holes, dice)
+}
+
+/// The same with holes of one's own.
+pub fn with_holes(shape: Shape, put: impl Fn(&mut [u64], &mut Dice), dice: &mut Dice) -> Batch {
     let Shape { n, gamma } = shape;
     let pricing = Pricing::random(dice);
     let (drafter, rates) = pricing.drafter(dice);
@@ -132,9 +142,7 @@ pub fn whole(shape: Shape, dice: &mut Dice) -> Batch {
         _ => depth,
     };
     let mut curve = pricing.curve(depth + 1, dice);
-    if dice.once_in(3) {
-        put_holes(&mut curve, dice);
-    }
+    put(&mut curve, dice);
     let mut loaded = match drafter.is_autoregressive() {
         true => loaded(n + 1, dice),
         false => Vec::new(),

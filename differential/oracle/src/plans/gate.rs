@@ -1,32 +1,13 @@
 //! The two gates by definition: of the slots that are next in their sequences, the one whose turn it
 //! is, found by looking at all of them.
 use crate::plans::goodput::{at_least_tiny, Costs};
+use crate::plans::verify_price::Mode;
 
 /// The widths, and how many slots were weighed.
 #[derive(Clone, Debug, PartialEq, Eq)]
 pub struct Chosen {
     pub widths: Vec<u32>,
     pub weighed: u64,
-}
-
-/// The verify price of t tokens over n sequences: straight between the depths of their mean width.
-fn price(prices: &[f64], n: u32, t: f64) -> f64 {
-    let gamma = prices.len() - 1;
-    let mean = t / f64::from(n) - 1.0;
-    let mean = if mean < 0.0 {
-        0.0
-    } else if mean > gamma as f64 {
-        gamma as f64
-    } else {
-        mean
-    };
-    let below = (mean as usize).min(gamma - 1);
-    let part = mean - below as f64;
-    if part > 0.0 {
-        prices[below] + part * (prices[below + 1] - prices[below])
-    } else {
-        prices[below]
-    }
 }
 
 fn sum(values: impl Iterator<Item = f64>) -> f64 {
@@ -62,6 +43,7 @@ pub struct Gate<'a> {
     pub chains: &'a [Vec<f64>],
     /// Those of the depths 0 to gamma.
     pub prices: &'a [f64],
+    pub mode: Mode,
     /// The batch's best depth.
     pub depth: u32,
     pub costs: Costs<'a>,
@@ -69,7 +51,12 @@ pub struct Gate<'a> {
 
 impl Gate<'_> {
     fn price(&self, t: f64) -> f64 {
-        price(self.prices, self.costs.n, t)
+        self.mode.price(self.prices, self.costs.n, t)
+    }
+
+    /// Whether no slot is given back for this price.
+    fn is_shut(&self, price: f64) -> bool {
+        self.mode == Mode::Bridged && !price.is_finite()
     }
 
     /// How far each sequence may be drafted.
@@ -117,8 +104,9 @@ impl Gate<'_> {
             let margin = self.costs.pass(m) - self.costs.pass(m - 1);
             let fewer = sums.without(slot(k), margin);
             let with = sums.expected / at_least_tiny(self.price(sums.tokens) + sums.drafter);
-            let seconds = (self.price(fewer.tokens) + sums.drafter) - margin;
-            let pays = fewer.expected / at_least_tiny(seconds) > with;
+            let verify = self.price(fewer.tokens);
+            let seconds = (verify + sums.drafter) - margin;
+            let pays = !self.is_shut(verify) && fewer.expected / at_least_tiny(seconds) > with;
             if pays {
                 widths[k] -= 1;
                 sums = fewer;
@@ -128,9 +116,14 @@ impl Gate<'_> {
     }
 
     /// Slots are added, the largest bits first, until one does not pay; one without a price is passed.
+    /// Bridged, where depth 0 is not measured, there is nothing to start from: all are drafted.
     pub fn block(&self) -> Chosen {
         if self.depth == 0 {
             return self.none();
+        }
+        if self.mode == Mode::Bridged && !self.prices[0].is_finite() {
+            let widths = self.starts();
+            return Chosen { widths, weighed: 0 };
         }
         let Chosen {
             mut widths,
@@ -172,51 +165,107 @@ impl Gate<'_> {
 mod tests {
     use super::*;
     use crate::drafter::{Drafter, Rates};
+    use crate::plans::goodput::expected;
 
-    #[test]
-    fn at_the_deepest_mean_width_the_price_is_worked_out_from_the_one_before() {
-        let prices = [0.1, 0.7];
-        assert_eq!(price(&prices, 2, 4.0), 0.1 + 1.0 * (0.7 - 0.1));
-        assert_eq!(price(&prices, 2, 2.0), 0.1);
-        assert_eq!(price(&[1.0, 2.0, 4.0], 2, 5.0), 3.0);
-    }
+    const NONE: f64 = f64::INFINITY;
+    const FRACTION: Drafter = Drafter::Fraction { frac: 0 };
+    const BLOCK: Drafter = Drafter::BlockParallel {
+        params: 0,
+        block: 1,
+    };
 
-    /// The gates of the rules' table.
-    #[test]
-    fn the_rules_examples() {
+    /// The widths and the slots weighed of the gate that suits a drafter, from the best depth on.
+    fn chosen(mode: Mode, drafter: Drafter, prices: &[f64], chains: &[&[f64]]) -> (Vec<u32>, u64) {
+        let chains: Vec<Vec<f64>> = chains.iter().map(|chain| chain.to_vec()).collect();
         let rates = Rates {
             peak: 1f64.to_bits(),
             bw: 1f64.to_bits(),
             kv_delta: 0,
         };
-        let chosen = |drafter, chains: [f64; 2]| {
-            let chains = chains.map(|s| vec![s]);
-            let costs = Costs {
-                drafter,
-                rates,
-                n: 2,
-                loaded: &[],
-            };
-            let gate = Gate {
-                chains: &chains,
-                prices: &[1.0, 1.25],
-                depth: 1,
-                costs,
-            };
-            let chosen = match drafter {
-                Drafter::BlockParallel { .. } => gate.block(),
-                _ => gate.ragged(),
-            };
-            (chosen.widths, chosen.weighed)
+        let costs = Costs {
+            drafter,
+            rates,
+            n: chains.len() as u32,
+            loaded: &[],
         };
-        let block = Drafter::BlockParallel {
-            params: 0,
-            block: 1,
+        let gamma = prices.len() as u32 - 1;
+        let gate = Gate {
+            chains: &chains,
+            prices,
+            mode,
+            depth: costs.best_depth(&expected(&chains, gamma), prices),
+            costs,
         };
-        let fraction = Drafter::Fraction { frac: 0 };
-        assert_eq!(chosen(fraction, [0.875, 0.125]), (vec![1, 0], 2));
-        assert_eq!(chosen(block, [0.875, 0.125]), (vec![1, 0], 2));
-        assert_eq!(chosen(block, [-0.0, 0.875]), (vec![0, 0], 1));
-        assert_eq!(chosen(block, [0.0, 0.875]), (vec![0, 1], 2));
+        let chosen = match drafter {
+            Drafter::BlockParallel { .. } => gate.block(),
+            _ => gate.ragged(),
+        };
+        (chosen.widths, chosen.weighed)
+    }
+
+    fn both(mode: Mode, prices: &[f64], chains: &[&[f64]]) -> [(Vec<u32>, u64); 2] {
+        [FRACTION, BLOCK].map(|drafter| chosen(mode, drafter, prices, chains))
+    }
+
+    /// The gates of the rules' table: their curve has no hole, and 1.25 at the deepest width in both modes.
+    #[test]
+    fn the_rules_examples() {
+        for mode in [Mode::Default, Mode::Bridged] {
+            let chosen = |drafter, [first, second]: [f64; 2]| {
+                chosen(mode, drafter, &[1.0, 1.25], &[&[first], &[second]])
+            };
+            assert_eq!(chosen(FRACTION, [0.875, 0.125]), (vec![1, 0], 2));
+            assert_eq!(chosen(BLOCK, [0.875, 0.125]), (vec![1, 0], 2));
+            assert_eq!(chosen(BLOCK, [-0.0, 0.875]), (vec![0, 0], 1));
+            assert_eq!(chosen(BLOCK, [0.0, 0.875]), (vec![0, 1], 2));
+        }
+    }
+
+    /// Gamma 4, the depths 0 and 4 measured: by default nothing is given back and nothing is drafted.
+    /// Bridged the prices are 1, 1.25, 1.5, 1.75, 2 and the rates 1, 1.6, 1.667, 1.571, 1.438.
+    #[test]
+    fn a_hole_is_crossed_in_the_bridged_mode_alone() {
+        let prices = [1.0, NONE, NONE, NONE, 2.0];
+        let chain: &[f64] = &[1.0, 0.5, 0.25, 0.125];
+        let by_default = [(vec![4], 1), (vec![0], 1)];
+        assert_eq!(both(Mode::Default, &prices, &[chain]), by_default);
+        let bridged = [(vec![2], 3), (vec![2], 3)];
+        assert_eq!(both(Mode::Bridged, &prices, &[chain]), bridged);
+    }
+
+    /// The depths 2 and 4 are measured. From 4.25 / 1.25 a slot goes to 4 / 1.125, none to 3 / 1.
+    #[test]
+    fn from_the_deepest_measured_depth_to_the_next_one_a_slot_is_given_back() {
+        let prices = [NONE, NONE, 1.0, NONE, 1.25];
+        let answer = chosen(Mode::Bridged, FRACTION, &prices, &[&[1.0, 1.0, 1.0, 0.25]]);
+        assert_eq!(answer, (vec![3], 2));
+    }
+
+    /// Below depth 2 nothing is measured: each sequence's slot is weighed once and stays.
+    #[test]
+    fn no_slot_is_given_back_to_where_no_price_is() {
+        let prices = [NONE, NONE, 1.0];
+        let ragged = |chains: &[&[f64]]| chosen(Mode::Bridged, FRACTION, &prices, chains);
+        assert_eq!(ragged(&[&[1.0, 0.0], &[1.0, 0.0]]), (vec![2, 2], 2));
+        assert_eq!(ragged(&[&[0.5], &[]]), (vec![1, 0], 1));
+    }
+
+    /// At the mean widths 3, 2.5 and 2 the rates are 6 / 1.25, 6 / 1.1875 and 6 / 1.125; 5 / 1.0625 is less.
+    #[test]
+    fn two_sequences_cross_a_hole_in_turn() {
+        let prices = [NONE, 1.0, NONE, 1.25];
+        let chains: [&[f64]; 2] = [&[1.0, 1.0, 0.0], &[1.0, 1.0, 0.0]];
+        let answer = chosen(Mode::Bridged, FRACTION, &prices, &chains);
+        assert_eq!(answer, (vec![2, 2], 4));
+    }
+
+    #[test]
+    fn a_block_without_a_first_price_is_drafted_whole() {
+        let chains: [&[f64]; 3] = [&[1.0, 0.5, 0.5], &[0.5], &[]];
+        let block = |mode| chosen(mode, BLOCK, &[NONE, 1.0, 0.875], &chains);
+        assert_eq!(block(Mode::Bridged), (vec![2, 1, 0], 0));
+        assert_eq!(block(Mode::Default), (vec![0, 0, 0], 2));
+        let unpriced = both(Mode::Bridged, &[NONE; 3], &chains);
+        assert_eq!(unpriced, [(vec![0; 3], 0), (vec![0; 3], 0)]);
     }
 }

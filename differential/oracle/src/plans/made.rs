@@ -4,7 +4,7 @@ use crate::drafter::{Drafter, Rates, MOST_SEQUENCES};
 use crate::drafter_values::{HALF, ONE, SPECIALS};
 use crate::plans::batch::{Asked, Batch};
 use crate::plans::chains::{Chains, SLOTS};
-use crate::plans::prices::{INFINITY, MINUS_ZERO};
+use crate::plans::prices::{put_pattern, MINUS_ZERO};
 use numbers::dice::Dice;
 use numbers::word_case::WordCase;
 
@@ -180,21 +180,18 @@ pub fn rooms(questions: &[Asked]) -> Vec<WordCase> {
     cases
 }
 
-/// Every pattern of holes in curves of two to four prices.
-pub fn holes(questions: &[Asked]) -> Vec<WordCase> {
+/// Every pattern of holes in curves of the depths 1 to a deepest one, which is at most 4.
+pub fn holes(questions: &[Asked], deepest: usize) -> Vec<WordCase> {
     let mut cases = Vec::new();
     for drafter in drafters() {
-        for gamma in 1..=3 {
+        for gamma in 1..=deepest {
             for pattern in 0..1 << (gamma + 1) {
                 for likely in [0.5, 0.875] {
-                    let row = |s: f64| bits(&[s, s * likely, s * likely * likely][..gamma]);
-                    let prices = [1.0, 1.125, 1.25, 1.5];
+                    let chain = |s: f64| std::iter::successors(Some(s), |s| Some(s * likely));
+                    let row = |s: f64| bits(&chain(s).take(gamma).collect::<Vec<f64>>());
+                    let prices = [1.0, 1.125, 1.25, 1.5, 1.75];
                     let mut batch = plain(drafter, &[row(0.75), row(likely)], &prices[..=gamma]);
-                    for (g, price) in batch.curve.iter_mut().enumerate() {
-                        if pattern >> g & 1 == 1 {
-                            *price = INFINITY;
-                        }
-                    }
+                    put_pattern(&mut batch.curve, pattern);
                     cases.extend(asked(&batch, questions));
                 }
             }
@@ -247,8 +244,12 @@ pub fn large(questions: &[Asked], dice: &mut Dice) -> Vec<WordCase> {
             loaded: (0..=n).map(|m| (m as f64 / 8.0).to_bits()).collect(),
         };
         for &asked in questions {
-            let suits = asked != Asked::Ragged || !drafter.is_block();
-            if suits && (asked != Asked::Block || drafter.is_block()) {
+            let suits = match asked {
+                Asked::Ragged(_) => !drafter.is_block(),
+                Asked::Block(_) => drafter.is_block(),
+                _ => true,
+            };
+            if suits {
                 cases.push(batch(n, asked).case(asked));
             }
         }

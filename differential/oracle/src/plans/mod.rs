@@ -3,11 +3,14 @@
 pub mod batch;
 pub mod batches;
 pub mod chains;
+pub mod edges;
 pub mod expectation;
 pub mod gate;
 pub mod goodput;
+pub mod hole_patterns;
 pub mod made;
 pub mod priced;
 pub mod prices;
 pub mod signal;
 pub mod unchanged;
+pub mod verify_price;

@@ -130,6 +130,15 @@ pub fn put_holes(curve: &mut [u64], dice: &mut Dice) {
     }
 }
 
+/// Holes at the depths whose bits are set in a pattern.
+pub fn put_pattern(curve: &mut [u64], pattern: u32) {
+    for (g, price) in curve.iter_mut().enumerate() {
+        if pattern >> g & 1 == 1 {
+            *price = INFINITY;
+        }
+    }
+}
+
 /// The loaded experts of so many entries: they rise less and less; at times of any size.
 pub fn loaded(entries: usize, dice: &mut Dice) -> Vec<u64> {
     if dice.once_in(12) {

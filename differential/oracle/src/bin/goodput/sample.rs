@@ -32,7 +32,7 @@ pub fn recorded() -> Vec<WordCase> {
         sparse(made::specials(questions), 5),
         sparse(made::limits(questions), 3),
         sparse(made::rooms(questions), 2),
-        sparse(made::holes(questions), 3),
+        sparse(made::holes(questions, 3), 3),
         made::large(questions, dice),
         sparse(priced_specials(), 3),
         signals(),

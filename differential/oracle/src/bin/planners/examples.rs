@@ -4,6 +4,7 @@ use oracle::drafter::{Drafter, Rates};
 use oracle::model::Kind;
 use oracle::planners::plan::{Plan, Planned, ROOM};
 use oracle::planners::world::*;
+use oracle::plans::verify_price::{Mode, MODES};
 use std::rc::Rc;
 
 fn bits(values: &[f64]) -> Vec<u64> {
@@ -28,6 +29,7 @@ fn world(policy: Policy) -> World {
         cooldown: 0,
         max_step: None,
         cost_ms: 0,
+        prices: Mode::Default,
         has_table: false,
         rows: 0,
         depth: 0,
@@ -254,4 +256,58 @@ fn a_collection_is_a_change_where_the_worker_is_known() {
         [0, 0, 21]
     );
     assert_eq!(held.counts(), [0, 0, 0]);
+}
+
+/// Gamma 4, the depths 0 and 4 measured, one round that survives by 1, 1/2, 1/4, 1/8.
+fn holed(prices: Mode, policy: Policy) -> Plan {
+    let none = f64::INFINITY;
+    under(&banked(policy), |world| {
+        world.prices = prices;
+        world.gamma = 4;
+        world.depth = 4;
+        world.lists[ROOFLINE] = bits(&[1.0, none, none, none, 2.0]);
+        world.lists[SIGNALS] = bits(&[1.0, 0.5, 0.5, 0.5]);
+        world.lists[CURVE] = bits(&[0.0, 1.0, 1.5, 1.75, 1.875]);
+    })
+}
+
+fn drafted(planned: Planned) -> (Vec<u32>, u64) {
+    match planned {
+        Planned::Plan {
+            drafts, weighed, ..
+        } => (drafts, weighed),
+        planned => panic!("{planned:?}"),
+    }
+}
+
+#[test]
+fn a_hole_is_crossed_in_the_bridged_mode_and_the_series_counts_what_is_drafted() {
+    let block = |plan: &Plan| {
+        under(plan, |world| {
+            world.drafter = Drafter::BlockParallel {
+                params: 0,
+                block: 4,
+            }
+        })
+    };
+    let [by_default, bridged] = MODES.map(|mode| holed(mode, Policy::GatedBudget));
+    let mut held = Held::new();
+    let mut plan = |plan: &Plan| drafted(held.plan(&Rc::new(plan.clone())));
+    assert_eq!(plan(&by_default), (vec![4], 1));
+    assert_eq!(plan(&bridged), (vec![2], 3));
+    assert_eq!(plan(&block(&by_default)), (vec![0], 1));
+    assert_eq!(plan(&block(&bridged)), (vec![2], 3));
+    let mean = |held: &Held| held.series()[0].mean_draft;
+    assert_eq!(mean(&held), 2.0);
+    assert_eq!((held.withdraw(), mean(&held)), (0, 2.0));
+    assert_eq!((held.withdraw(), mean(&held)), (0, 3.0));
+    assert_eq!((held.withdraw(), mean(&held)), (0, 4.0));
+}
+
+#[test]
+fn the_mode_is_of_use_to_the_gated_budget_alone() {
+    for policy in [Policy::Fixed, Policy::GoodputBudget, Policy::GatedAggregate] {
+        let both = MODES.map(|mode| Held::new().plan(&Rc::new(holed(mode, policy))));
+        assert_eq!(both[0], both[1]);
+    }
 }

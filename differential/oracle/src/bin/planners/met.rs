@@ -12,6 +12,7 @@ const MODELS: [&str; 3] = ["Constant", "PerPosition", "Trace"];
 const DRAFTERS: [&str; 4] = ["none", "Fraction", "Autoregressive", "BlockParallel"];
 const PRICES: [&str; 2] = ["roofline", "table"];
 const SWITCHING: [&str; 2] = ["free", "constrained"];
+const MODES: [&str; 2] = ["gated by default", "bridged"];
 
 /// Counts of plans; of those that were made, by what they were made under.
 #[derive(Clone, Debug, Default, PartialEq, Eq, Hash)]
@@ -23,6 +24,8 @@ pub struct Met {
     pub drafters: [u64; 4],
     pub prices: [u64; 2],
     pub switching: [u64; 2],
+    /// Of the plans under GatedBudget.
+    pub modes: [u64; 2],
     pub weighed: u64,
     pub sequences: u64,
     pub shapes: Shapes,
@@ -55,6 +58,9 @@ impl Met {
         self.drafters[drafter] += 1;
         self.prices[usize::from(world.has_table)] += 1;
         self.switching[usize::from(is_constrained(world))] += 1;
+        if world.policy == Policy::GatedBudget {
+            self.modes[world.prices as usize] += 1;
+        }
         self.weighed += weighed;
         self.sequences += drafts.len() as u64;
         self.shapes.count(shape_of(&[
@@ -62,6 +68,7 @@ impl Met {
             ("uneven", drafts.iter().any(|&draft| draft != drafts[0])),
             ("with holes", has_holes(world)),
             ("stalled", stalled),
+            ("bridged", world.is_bridged()),
         ]));
     }
 
@@ -73,6 +80,7 @@ impl Met {
             (&mut self.drafters, &more.drafters),
             (&mut self.prices, &more.prices),
             (&mut self.switching, &more.switching),
+            (&mut self.modes, &more.modes),
         ];
         for (sums, more) in sums {
             for (sum, more) in sums.iter_mut().zip(more) {
@@ -128,6 +136,7 @@ impl Display for Met {
         writeln!(f, "{}", named(&DRAFTERS, &self.drafters))?;
         writeln!(f, "{}", named(&PRICES, &self.prices))?;
         writeln!(f, "{}", named(&SWITCHING, &self.switching))?;
+        writeln!(f, "{}", named(&MODES, &self.modes))?;
         write!(f, "{}", self.shapes)
     }
 }

@@ -6,15 +6,19 @@ use crate::script::Script;
 use numbers::dice::Dice;
 use numbers::kept::Kept;
 use oracle::planners::damages::{damaged, damaged_by, SORTS};
-use oracle::planners::world::{Policy, POLICIES};
+use oracle::planners::plan::Plan;
+use oracle::planners::unchanged::Unchanged;
+use oracle::planners::world::{Policy, World, POLICIES};
 use oracle::planners::worlds::{self, Shape};
+use oracle::plans::verify_price::{Mode, MODES};
 use std::rc::Rc;
 
 /// The sentence that says the space.
 pub fn space(seed: u64) -> String {
     format!(
         "space: random planners of up to 60 calls, over all policies, models, drafters and both \
-         sources of prices, with altered settings, clocks that go back, end times of any pattern and \
+         sources of prices, half of them in the bridged mode and half of their rooflines with holes, \
+         with altered settings, clocks that go back, end times of any pattern and \
          withdrawals; others of damaged plans, of any refusal; some with 65,536 rounds and 4,096 rows, \
          with 4,096 seconds, with 256 workers or with 1,000,000 steps in a second; seed {seed}"
     )
@@ -113,6 +117,40 @@ pub fn gating(calls: usize, dice: &mut Dice) -> PlannerCase {
         scene = Scene::new(shape, Policy::GatedBudget, dice);
     }
     under(Script::new(), scene, calls, dice)
+}
+
+/// A planner whose gates cross holes: its first settings are such that a plan drafts otherwise by default.
+pub fn bridging(calls: usize, dice: &mut Dice) -> PlannerCase {
+    let shape = Shape {
+        gamma: 4,
+        most: 3,
+        is_full: false,
+    };
+    let mut scene = Scene::new(shape, Policy::GatedBudget, dice);
+    while !scene.world.is_bridged() || !part_the_modes(&scene.world, dice) {
+        scene = Scene::new(shape, Policy::GatedBudget, dice);
+    }
+    under(Script::new(), scene, calls, dice)
+}
+
+/// Whether a plan of two sequences drafts something else in the other mode.
+fn part_the_modes(world: &World, dice: &mut Dice) -> bool {
+    let in_mode = |prices| {
+        let other = World {
+            prices,
+            ..world.clone()
+        };
+        Rc::new(other)
+    };
+    let plan = worlds::plan(&in_mode(Mode::Default), 2, dice);
+    let [by_default, bridged] = MODES.map(|mode| {
+        let world = in_mode(mode);
+        Unchanged::new().plan(&Plan {
+            world,
+            ..plan.clone()
+        })
+    });
+    by_default != bridged
 }
 
 /// A planner of one worker whose width changes cost something.

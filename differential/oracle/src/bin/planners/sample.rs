@@ -1,7 +1,7 @@
 //! The recorded sample: the same cases on every machine.
 use crate::full::{full_second, full_seconds, full_workers};
 use crate::planner_case::PlannerCase;
-use crate::random::{damages, each_damage, gating, switching, under};
+use crate::random::{bridging, damages, each_damage, gating, switching, under};
 use crate::scene::Scene;
 use crate::script::Script;
 use numbers::dice::Dice;
@@ -14,7 +14,7 @@ const SEED: u64 = 3;
 pub fn space() -> String {
     format!(
         "space: planners of all policies, models, drafters and both sources of prices, and damaged \
-         plans of every refusal, small ones; one with 256 workers, one with 4,096 seconds and one with \
+         plans of every refusal, small ones, in both modes of prices; one with 256 workers, one with 4,096 seconds and one with \
          1,000,000 steps in a second; seed {SEED}"
     )
 }
@@ -28,6 +28,7 @@ pub fn recorded() -> Vec<PlannerCase> {
             cases.push(under(Script::new(), scene, dice.between(3, 8), dice));
         }
         cases.push(gating(4, dice));
+        cases.push(bridging(4, dice));
         cases.push(switching(8, dice));
         if turn % 2 == 0 {
             cases.push(damages(Script::new(), Shape::small(dice), 8, dice));
@@ -73,6 +74,7 @@ mod tests {
             &met.drafters,
             &met.prices,
             &met.switching,
+            &met.modes,
             &[met.empty, met.weighed],
         ];
         assert!(counts.concat().iter().all(|&count| count > 0), "{met}");

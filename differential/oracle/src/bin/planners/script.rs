@@ -7,7 +7,8 @@ use numbers::kept::Kept;
 use numbers::word_case::WordCase;
 use oracle::clock::end_in;
 use oracle::planners::plan::{Plan, Planned, MOST_SLOTS, WHOLE};
-use oracle::planners::world::World;
+use oracle::planners::world::{World, MODE_REGISTER};
+use oracle::plans::verify_price::Mode;
 use oracle::simulation::spec::SpecPlanner;
 use std::rc::Rc;
 
@@ -41,6 +42,7 @@ pub struct Script {
     met: Met,
     /// What was set last: the registers, the world whose lists these are, and all lists.
     registers: Vec<u64>,
+    mode: Mode,
     world: Option<Rc<World>>,
     lists: [Vec<u64>; 11],
     /// Which calls are made, and how many were asked for.
@@ -63,6 +65,7 @@ impl Script {
             refused: 0,
             met: Met::default(),
             registers: vec![0; 21],
+            mode: Mode::Default,
             world: None,
             lists: Default::default(),
             kept,
@@ -108,6 +111,10 @@ impl Script {
             let words = [&[first as u64], &registers[first..=last]].concat();
             self.registers = registers;
             self.turn(b'r', &words);
+        }
+        if plan.world.prices != self.mode {
+            self.mode = plan.world.prices;
+            self.turn(b'r', &[MODE_REGISTER, self.mode as u64]);
         }
         let held = self.world.as_ref();
         if !held.is_some_and(|held| Rc::ptr_eq(held, &plan.world)) {
