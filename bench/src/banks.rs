@@ -71,9 +71,9 @@ fn reading(report: &mut Report, rounds: usize, depth: usize) {
         |bank| bank.rounds.len() as u64,
     );
     if rounds == MOST {
-        report.row(&name, Some(0.7), times);
+        report.rust.row(&name, Some(0.7), times);
     }
-    report.size(&family, rounds, times);
+    report.rust.size(&family, rounds, times);
 }
 
 pub fn readings(report: &mut Report) {

@@ -47,7 +47,7 @@ fn expected(report: &mut Report) {
             })
         },
     );
-    report.row(name, Some(1.0), times);
+    report.rust.row(name, Some(1.0), times);
 }
 
 const DEPTHS: usize = 500;
@@ -106,7 +106,7 @@ fn best_depths(report: &mut Report, holes: bool) {
         let name = format!("goodput: the best of 65 depths, prices {prices}, {kind} drafter");
         if report.wants(&name) {
             let times = depths(&name, &drafter, cost, &rates, &asked);
-            report.row(&name, Some(1.0), times);
+            report.rust.row(&name, Some(1.0), times);
         }
     }
 }

@@ -86,7 +86,7 @@ fn ascending(report: &mut Report, each: usize, goal: Option<f64>) {
             record_rust(planner, &seconds)
         }),
     );
-    report.row(&name, goal, times);
+    report.rust.row(&name, goal, times);
 }
 
 /// Plans in seconds that are held already, of `rows` that are held.
@@ -111,7 +111,7 @@ fn among_all(report: &mut Report, name: &str, goal: Option<f64>, seconds: &[u64]
     );
     if report.wants(&name) {
         let times = known(&name, SECONDS, seconds);
-        report.row(&name, goal, times);
+        report.rust.row(&name, goal, times);
     }
 }
 
@@ -131,7 +131,7 @@ fn grows(report: &mut Report, plans: usize) {
     }
     for rows in [64, 512, SECONDS] {
         let times = known(name, rows, &random(rows, plans));
-        report.size(name, rows, times);
+        report.rust.size(name, rows, times);
     }
 }
 
@@ -151,7 +151,7 @@ fn series(report: &mut Report) {
         |()| planner.depth_series(),
         |rows| rows.len() as u64,
     );
-    report.row(&name, None, times);
+    report.rust.row(&name, None, times);
 }
 
 pub fn ledger(report: &mut Report) {

@@ -13,6 +13,8 @@ mod gates;
 mod goodput;
 #[cfg(feature = "rust")]
 mod ledger;
+#[cfg(feature = "rust")]
+mod modes;
 mod numbers;
 mod ours;
 #[cfg(feature = "rust")]
@@ -21,6 +23,8 @@ mod plan;
 mod plans;
 mod report;
 mod side;
+#[cfg(feature = "rust")]
+mod sizes;
 #[cfg(feature = "rust")]
 mod storage;
 #[cfg(feature = "rust")]
@@ -46,6 +50,7 @@ fn against_the_files(report: &mut Report) {
     tables::tables(report);
     goodput::goodput(report);
     gates::both(report);
+    modes::both(report);
     ledger::ledger(report);
     whole::whole(report);
 }

@@ -41,5 +41,5 @@ pub fn decimals(report: &mut Report) {
         || each(&|t| ours::decimal(t.as_bytes()).to_bits()),
         || each(&|t| t.parse::<f64>().unwrap().to_bits()),
     );
-    report.row(name, Some(1.0), times);
+    report.rust.row(name, Some(1.0), times);
 }

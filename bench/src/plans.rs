@@ -38,6 +38,7 @@ extern "C" {
         curve: *const f64,
         curve_length: usize,
         gamma: u32,
+        mode: u32,
         kind: u32,
         a: f64,
         b: f64,
@@ -60,6 +61,7 @@ extern "C" {
         curve: *const f64,
         curve_length: usize,
         gamma: u32,
+        mode: u32,
         kind: u32,
         a: f64,
         b: f64,
@@ -84,6 +86,7 @@ type GateCall = unsafe extern "C" fn(
     usize,
     u32,
     u32,
+    u32,
     f64,
     f64,
     u32,
@@ -96,6 +99,10 @@ type GateCall = unsafe extern "C" fn(
     *mut u32,
     usize,
 ) -> u64;
+
+/// The price modes as they cross: between depths by the two around, measured or not, or by the nearest measured ones.
+pub const DEFAULT: u32 = 0;
+pub const BRIDGED: u32 = 1;
 
 /// The slots of a sequence's chain.
 pub const SLOTS: usize = 64;
@@ -173,28 +180,31 @@ pub fn depth(
 pub fn ragged(
     batch: &Batch,
     gamma: u32,
+    mode: u32,
     drafter: &Drafter,
     rates: &Rates,
     widths: &mut [u32],
 ) -> u64 {
-    gated(bench_ragged, batch, gamma, drafter, rates, widths)
+    gated(bench_ragged, batch, gamma, mode, drafter, rates, widths)
 }
 
 /// The same of the block gate.
 pub fn block(
     batch: &Batch,
     gamma: u32,
+    mode: u32,
     drafter: &Drafter,
     rates: &Rates,
     widths: &mut [u32],
 ) -> u64 {
-    gated(bench_block, batch, gamma, drafter, rates, widths)
+    gated(bench_block, batch, gamma, mode, drafter, rates, widths)
 }
 
 fn gated(
     gate: GateCall,
     batch: &Batch,
     gamma: u32,
+    mode: u32,
     drafter: &Drafter,
     rates: &Rates,
     widths: &mut [u32],
@@ -209,6 +219,7 @@ fn gated(
             batch.curve.as_ptr(),
             batch.curve.len(),
             gamma,
+            mode,
             drafter.kind,
             a,
             b,

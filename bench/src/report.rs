@@ -1,4 +1,4 @@
-//! What a run tells: every ratio in one table, the worst against its goal first, and how cost grows.
+//! What a run tells: every ratio in one table, the worst against its goal first, and how cost grows; the same of the price modes.
 use crate::side::Times;
 use std::cmp::Ordering;
 
@@ -16,11 +16,20 @@ struct Size {
     times: Times,
 }
 
+/// What was measured of two sides, each by its name.
+pub struct Pair {
+    sides: [&'static str; 2],
+    rows: Vec<Row>,
+    sizes: Vec<Size>,
+}
+
 /// The rows of a run as they are measured, only those whose name has the filter in it.
 pub struct Report {
     filter: String,
-    rows: Vec<Row>,
-    sizes: Vec<Size>,
+    /// Ours against the Rust.
+    pub rust: Pair,
+    /// Ours in the bridged mode against ours in the default mode.
+    pub modes: Pair,
 }
 
 impl Row {
@@ -38,7 +47,7 @@ impl Row {
             Some(_) => "within",
             None => "",
         };
-        let goal = self.goal.map_or(String::new(), |goal| format!("{goal:.1}"));
+        let goal = self.goal.map_or(String::new(), |goal| format!("{goal:?}"));
         format!(
             "| {} | {goal} | {} | {verdict} |",
             self.what,
@@ -47,17 +56,13 @@ impl Row {
     }
 }
 
-impl Report {
-    pub fn new(filter: String) -> Report {
-        Report {
-            filter,
+impl Pair {
+    fn new(sides: [&'static str; 2]) -> Pair {
+        Pair {
+            sides,
             rows: Vec::new(),
             sizes: Vec::new(),
         }
-    }
-
-    pub fn wants(&self, what: &str) -> bool {
-        what.contains(&self.filter)
     }
 
     /// A ratio with its goal.
@@ -81,21 +86,44 @@ impl Report {
         });
     }
 
-    pub fn print(mut self) {
+    /// The tables that have rows, and an empty line behind each.
+    fn print(mut self) {
         let worst_first = |a: &Row, b: &Row| -> Ordering { b.distance().total_cmp(&a.distance()) };
         self.rows.sort_by(worst_first);
-        println!("| What | Goal | Ours | The Rust | Ratio | Against its goal |");
-        println!("|---|---|---|---|---|---|");
-        self.rows.iter().for_each(|row| println!("{}", row.line()));
-        if self.sizes.is_empty() {
-            return;
+        let [ours, other] = self.sides;
+        if !self.rows.is_empty() {
+            println!("| What | Goal | {ours} | {other} | Ratio | Against its goal |");
+            println!("|---|---|---|---|---|---|");
+            self.rows.iter().for_each(|row| println!("{}", row.line()));
+            println!();
         }
-        println!();
-        println!("| What grows | Size | Ours | The Rust | Ratio |");
-        println!("|---|---|---|---|---|");
-        for Size { what, size, times } in &self.sizes {
-            println!("| {what} | {} | {} |", grouped(*size), times.cells());
+        if !self.sizes.is_empty() {
+            println!("| What grows | Size | {ours} | {other} | Ratio |");
+            println!("|---|---|---|---|---|");
+            for Size { what, size, times } in &self.sizes {
+                println!("| {what} | {} | {} |", grouped(*size), times.cells());
+            }
+            println!();
         }
+    }
+}
+
+impl Report {
+    pub fn new(filter: String) -> Report {
+        Report {
+            filter,
+            rust: Pair::new(["Ours", "The Rust"]),
+            modes: Pair::new(["Bridged", "Default"]),
+        }
+    }
+
+    pub fn wants(&self, what: &str) -> bool {
+        what.contains(&self.filter)
+    }
+
+    pub fn print(self) {
+        self.rust.print();
+        self.modes.print();
     }
 }
 

@@ -6,16 +6,16 @@ use std::time::Duration;
 
 const TURNS: usize = 31;
 
-/// The nanoseconds that each side takes for one unit of its work.
+/// The nanoseconds that ours, and what it is held against, take for one unit of the work.
 #[derive(Clone, Copy)]
 pub struct Times {
     pub ours: f64,
-    pub rust: f64,
+    pub other: f64,
 }
 
 impl Times {
     pub fn ratio(self) -> f64 {
-        self.ours / self.rust
+        self.ours / self.other
     }
 
     /// The times of each of `parts` equal parts.
@@ -23,14 +23,14 @@ impl Times {
     pub fn over(self, parts: usize) -> Times {
         Times {
             ours: self.ours / parts as f64,
-            rust: self.rust / parts as f64,
+            other: self.other / parts as f64,
         }
     }
 
     /// The two times and their ratio, as the cells of a table.
     pub fn cells(self) -> String {
-        let (ours, rust) = (time_text(self.ours), time_text(self.rust));
-        format!("{ours} | {rust} | {:.2}", self.ratio())
+        let (ours, other) = (time_text(self.ours), time_text(self.other));
+        format!("{ours} | {other} | {:.2}", self.ratio())
     }
 }
 
@@ -44,9 +44,9 @@ fn time_text(nanoseconds: f64) -> String {
 }
 
 /// Both answer a sum over all their answers, which has to be the same: so neither skips any work.
-pub fn by_side(name: &str, count: usize, ours: impl Fn() -> u64, rust: impl Fn() -> u64) -> Times {
-    assert_eq!(ours(), rust(), "{name}: the two sides answer differently");
-    in_turn(count, || time(&ours), || time(&rust))
+pub fn by_side(name: &str, count: usize, ours: impl Fn() -> u64, other: impl Fn() -> u64) -> Times {
+    assert_eq!(ours(), other(), "{name}: the two sides answer differently");
+    uncompared(count, ours, other)
 }
 
 /// The same, where each side works on something that is made ready for each of its turns outside the clock.
@@ -82,17 +82,22 @@ pub fn by_side_made<Given, Made>(
     in_turn(count, || time(&ours), || time_made(&ready, &rust))
 }
 
+/// Both sides, where whether they answer alike is looked at elsewhere, or they are not to.
+pub fn uncompared(count: usize, ours: impl Fn() -> u64, other: impl Fn() -> u64) -> Times {
+    in_turn(count, || time(&ours), || time(&other))
+}
+
 /// The median of each side's turns, for one of `count` units.
-fn in_turn(count: usize, ours: impl Fn() -> Duration, rust: impl Fn() -> Duration) -> Times {
+fn in_turn(count: usize, ours: impl Fn() -> Duration, other: impl Fn() -> Duration) -> Times {
     let (mut a, mut b) = (Vec::new(), Vec::new());
     for _ in 0..TURNS {
         a.push(ours());
-        b.push(rust());
+        b.push(other());
     }
     let each = |turns: Vec<Duration>| median(turns).as_secs_f64() * 1e9 / count as f64;
     Times {
         ours: each(a),
-        rust: each(b),
+        other: each(b),
     }
 }
 

@@ -71,7 +71,7 @@ fn orders(report: &mut Report) {
         let name = format!("tables: a row of a text of {} rows {order}", grouped(MOST));
         if report.wants(&name) {
             let times = reading(&name, MOST, &table_text(MOST, place));
-            report.row(&name, goal, times);
+            report.rust.row(&name, goal, times);
         }
     }
 }
@@ -133,8 +133,8 @@ fn curves(report: &mut Report) {
     let (table, rust) = table_of(MOST);
     let times = curve(&whole, &table, &rust);
     let ours = times.ours - judging(&table);
-    report.row(&whole, None, times);
-    report.row(&bare, Some(0.3), Times { ours, ..times });
+    report.rust.row(&whole, None, times);
+    report.rust.row(&bare, Some(0.3), Times { ours, ..times });
 }
 
 /// A row of a text, by the rows of the table.
@@ -145,7 +145,7 @@ fn reading_grows(report: &mut Report) {
     }
     for rows in SIZES {
         let times = reading(name, rows, &table_text(rows, |k| k));
-        report.size(name, rows, times);
+        report.rust.size(name, rows, times);
     }
 }
 
@@ -158,7 +158,7 @@ fn curve_grows(report: &mut Report) {
     for rows in SIZES {
         let (table, rust) = table_of(rows);
         let times = curve(name, &table, &rust);
-        report.size(name, rows, times);
+        report.rust.size(name, rows, times);
     }
 }
 

@@ -41,7 +41,7 @@ fn cell(report: &mut Report, kind: &Kind) {
     );
     if report.wants(&name) {
         let times = measured(&name, kind);
-        report.row(&name, Some(1.0), times);
+        report.rust.row(&name, Some(1.0), times);
     }
 }
 
@@ -62,7 +62,7 @@ fn grows(report: &mut Report) {
             gamma,
             count,
         };
-        report.size(name, rows as usize, measured(name, &kind));
+        report.rust.size(name, rows as usize, measured(name, &kind));
     }
 }
 

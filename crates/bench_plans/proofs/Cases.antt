@@ -9,6 +9,7 @@ use Rattle.goodput.specs.declared.curve.Source.{Source}
 use Rattle.goodput.specs.declared.curve.Source.the-variants.{Roofline, Table}
 use Rattle.settings.specs.declared.Policy.{Policy}
 use Rattle.settings.specs.declared.Policy.the-variants.{Fixed, GoodputBudget, GatedBudget, GatedAggregate}
+use Rattle.verify_prices.specs.declared.PriceMode.the-variants.{Default}
 use Rattle.settings.specs.declared.Settings.{Settings}
 use Rattle.speculative.specs.declared.drafter.DrafterCost.{DrafterCost}
 use Rattle.speculative.specs.declared.drafter.Rates.{Rates}
@@ -59,7 +60,7 @@ pub both-put : {A B C : Type 0} → (f : A → B → C) → (a a' : A) → (b b'
 both-put {A = A} {B = B} f a a' b b' p q = ap (λ (x : A). f x b) p ∙ ap (λ (y : B). f a' y) q
 
 abbrev pub set : ℕ → SwitchConstraints → DrafterCost → AcceptanceModel → Policy → Settings
-set gamma switch drafter model policy = record { gamma = gamma; model = model; policy = policy; switch = switch; drafter = drafter }
+set gamma switch drafter model policy = record { gamma = gamma; model = model; policy = policy; switch = switch; drafter = drafter; prices = Default }
 
 abbrev pub asked : ℕ → ℕ → Float → ℕ → ℕ → ℕ → Rates → Source → Ask
 asked worker sequences end rows depth rounds rates source =

@@ -1,4 +1,4 @@
--- An answer as one plain number, and a drafter and its rates from plain numbers.
+-- An answer as one plain number, and a drafter, its rates and a price mode from plain numbers.
 use Prim.Native.Nat.{ℕ}
 use mathlib.Core.Bool.{cond}
 use lib.Dec.{eqb}
@@ -6,6 +6,8 @@ use lib.Ieee.{Float, binary64, ofBits}
 use Rattle.speculative.specs.declared.drafter.DrafterCost.{DrafterCost}
 use Rattle.speculative.specs.declared.drafter.DrafterCost.the-variants.{Fraction, Autoregressive, BlockParallel}
 use Rattle.speculative.specs.declared.drafter.Rates.{Rates}
+use Rattle.verify_prices.specs.declared.PriceMode.{PriceMode}
+use Rattle.verify_prices.specs.declared.PriceMode.the-variants.{Default, Bridged}
 use Rattle.goodput.specs.declared.depth.Depth.{Depth}
 use Rattle.goodput.specs.declared.depth.Depth.the-variants.{Best, Refused}
 use Rattle.gates.specs.declared.Gated.{Gated}
@@ -22,6 +24,10 @@ drafterOf kind a b c d e = cond (eqb kind 0) (Fraction a) (cond (eqb kind 1) (Au
 -- no correction for the length of the contexts
 unfoldable pub ratesOf : Float → Float → Rates
 ratesOf peak bw = record { peak = peak; bw = bw; «kv_delta» = ofBits binary64 0 }
+
+-- any number but 0 is bridged
+unfoldable pub modeOf : ℕ → PriceMode
+modeOf mode = cond (eqb mode 0) Default Bridged
 
 -- the greatest number stands for a refusal
 unfoldable pub depthOf : Depth → ℕ

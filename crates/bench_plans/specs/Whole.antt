@@ -12,6 +12,7 @@ use Rattle.goodput.specs.declared.curve.Source.{Source}
 use Rattle.goodput.specs.declared.curve.Source.the-variants.{Roofline, Table}
 use Rattle.settings.specs.declared.Policy.{Policy}
 use Rattle.settings.specs.declared.Policy.the-variants.{Fixed, GoodputBudget, GatedBudget, GatedAggregate}
+use Rattle.verify_prices.specs.declared.PriceMode.the-variants.{Default}
 use Rattle.settings.specs.declared.Settings.{Settings}
 use Rattle.asked_rooms.specs.declared.Ask.{Ask}
 use Rattle.judged_plans.specs.declared.Planned.{Planned}
@@ -32,7 +33,7 @@ sourceOf rows = cond (eqb rows 0) Roofline Table
 
 abbrev pub settingsOf : ℕ → ℕ → Float → ℕ → ℕ → Float → DrafterCost → Settings
 settingsOf gamma model alpha policy cooldown cost drafter =
-    record { gamma = gamma; model = modelOf model alpha; policy = policyOf policy; switch = switchOf cooldown cost; drafter = drafter }
+    record { gamma = gamma; model = modelOf model alpha; policy = policyOf policy; switch = switchOf cooldown cost; drafter = drafter; prices = Default }
 
 abbrev pub askOf : ℕ → ℕ → Float → Float → Float → ℕ → ℕ → ℕ → Ask
 askOf worker sequences end peak bw rows depth rounds =

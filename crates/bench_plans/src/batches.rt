@@ -4,11 +4,12 @@ use goodput::depth::Depth;
 use goodput::expected::Answer;
 use speculative::drafter::DrafterCost;
 use speculative::drafter::Rates;
+use verify_prices::PriceMode;
 ghost use mathlib.Core.Path.{_≡_};
 ghost use Rattle.goodput.specs.Expected.{expectedByDepth, answerNumber};
 ghost use Rattle.goodput.specs.Depth.{depthAnswer};
 ghost use Rattle.gates.specs.Entry.{raggedAnswer, blockAnswer};
-ghost use Rattle.bench_plans.specs.Figures.{drafterOf, ratesOf, weighedOf, depthOf};
+ghost use Rattle.bench_plans.specs.Figures.{drafterOf, ratesOf, modeOf, weighedOf, depthOf};
 
 // The drafter of a kind: 0 a fraction, 1 an autoregressive head, any other a block head. `a` and `b` are its sizes, the rest its counts.
 pub fn drafter_of(kind: u32, a: f64, b: f64, c: u32, d: u32, e: u32) -> DrafterCost
@@ -41,6 +42,16 @@ pub fn rates_of(peak: f64, bw: f64) -> Rates
         bw,
         kv_delta: 0.0,
     }
+}
+
+// 0 the default, any other number bridged.
+fn mode_of(mode: u32) -> PriceMode
+    ensures { λ r. ⌜ r ≡ modeOf mode ⌝ }
+{
+    if mode == 0 {
+        return PriceMode::Default;
+    }
+    PriceMode::Bridged
 }
 
 // The slots weighed; 2^64 - 1 where the gate is refused.
@@ -106,6 +117,7 @@ pub extern "C" fn bench_ragged(
     lengths: &[u32],
     curve: &[f64],
     gamma: u32,
+    mode: u32,
     kind: u32,
     a: f64,
     b: f64,
@@ -117,16 +129,18 @@ pub extern "C" fn bench_ragged(
     loaded: &[f64],
     widths: &mut [u32],
 ) -> u64
-    ensures { λ r. ⌜ r ≡ weighedOf (raggedAnswer (now (chains .entry)) (now (lengths .entry)) (now (curve .entry)) gamma (drafterOf kind a b c d e) (ratesOf peak bw) (now (loaded .entry)) (now (widths .entry)) .answer) ⌝ }
-    ensures { λ r. ⌜ now (widths .exit) ≡ raggedAnswer (now (chains .entry)) (now (lengths .entry)) (now (curve .entry)) gamma (drafterOf kind a b c d e) (ratesOf peak bw) (now (loaded .entry)) (now (widths .entry)) .widths ⌝ }
+    ensures { λ r. ⌜ r ≡ weighedOf (raggedAnswer (now (chains .entry)) (now (lengths .entry)) (now (curve .entry)) gamma (drafterOf kind a b c d e) (ratesOf peak bw) (now (loaded .entry)) (modeOf mode) (now (widths .entry)) .answer) ⌝ }
+    ensures { λ r. ⌜ now (widths .exit) ≡ raggedAnswer (now (chains .entry)) (now (lengths .entry)) (now (curve .entry)) gamma (drafterOf kind a b c d e) (ratesOf peak bw) (now (loaded .entry)) (modeOf mode) (now (widths .entry)) .widths ⌝ }
 {
     let drafter = drafter_of(kind, a, b, c, d, e);
     let rates = rates_of(peak, bw);
+    let prices = mode_of(mode);
     let answer = gates::gated_ragged_draft(
         chains,
         lengths,
         curve,
         gamma,
+        prices,
         drafter,
         rates,
         loaded,
@@ -142,6 +156,7 @@ pub extern "C" fn bench_block(
     lengths: &[u32],
     curve: &[f64],
     gamma: u32,
+    mode: u32,
     kind: u32,
     a: f64,
     b: f64,
@@ -153,16 +168,18 @@ pub extern "C" fn bench_block(
     loaded: &[f64],
     widths: &mut [u32],
 ) -> u64
-    ensures { λ r. ⌜ r ≡ weighedOf (blockAnswer (now (chains .entry)) (now (lengths .entry)) (now (curve .entry)) gamma (drafterOf kind a b c d e) (ratesOf peak bw) (now (loaded .entry)) (now (widths .entry)) .answer) ⌝ }
-    ensures { λ r. ⌜ now (widths .exit) ≡ blockAnswer (now (chains .entry)) (now (lengths .entry)) (now (curve .entry)) gamma (drafterOf kind a b c d e) (ratesOf peak bw) (now (loaded .entry)) (now (widths .entry)) .widths ⌝ }
+    ensures { λ r. ⌜ r ≡ weighedOf (blockAnswer (now (chains .entry)) (now (lengths .entry)) (now (curve .entry)) gamma (drafterOf kind a b c d e) (ratesOf peak bw) (now (loaded .entry)) (modeOf mode) (now (widths .entry)) .answer) ⌝ }
+    ensures { λ r. ⌜ now (widths .exit) ≡ blockAnswer (now (chains .entry)) (now (lengths .entry)) (now (curve .entry)) gamma (drafterOf kind a b c d e) (ratesOf peak bw) (now (loaded .entry)) (modeOf mode) (now (widths .entry)) .widths ⌝ }
 {
     let drafter = drafter_of(kind, a, b, c, d, e);
     let rates = rates_of(peak, bw);
+    let prices = mode_of(mode);
     let answer = gates::gated_block_verify(
         chains,
         lengths,
         curve,
         gamma,
+        prices,
         drafter,
         rates,
         loaded,

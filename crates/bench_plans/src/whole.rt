@@ -10,6 +10,7 @@ use settings::Settings;
 use speculative::drafter::DrafterCost;
 use switch_settings::MaxStep;
 use switch_settings::SwitchConstraints;
+use verify_prices::PriceMode;
 ghost use mathlib.Core.Path.{_≡_};
 ghost use Rattle.asking.specs.Asked.{Lent};
 ghost use Rattle.planner.specs.Plan.{planned};
@@ -87,6 +88,7 @@ fn settings_of(
         policy: decides,
         switch,
         drafter,
+        prices: PriceMode::Default,
     }
 }
 
