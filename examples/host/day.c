@@ -77,7 +77,8 @@ static void plan(latchmeander_settings settings, latchmeander_ask ask, const dou
     latchmeander_planned made =
         latchmeander_plan(settings, ask, positions, 2, roofline, 5, h.depths, 8, h.batches, 8, h.seconds, 8, loaded, 3, h.bank_commits, 8,
                           h.signals, 32, h.curve, 5, draws, draws_len, indices, indices_len, h.words, WORDS, h.drafts, MOST, h.commits, MOST);
-    printf("%.2f worker %lu policy %u: ", ask.end, (unsigned long)ask.b, settings.policy);
+    printf("%.2f worker %lu policy %u%s: ", ask.end, (unsigned long)ask.b, settings.policy,
+           settings.prices == LATCHMEANDER_PRICES_BRIDGED ? " bridged" : "");
     if (made.refusal) {
         refused(made.refusal);
         return;
@@ -147,6 +148,13 @@ static void plan_morning(latchmeander_settings gated) {
     show_series();
 }
 
+/* The gate in both price modes: depth 3 was not measured, so by default a draft of 4 is kept whole, and bridged it can be given back. */
+static void plan_bridged(latchmeander_settings settings) {
+    plan_pair(settings, 2, 43199.25, 0, 3);
+    settings.prices = LATCHMEANDER_PRICES_BRIDGED;
+    plan_pair(settings, 2, 43199.50, 0, 3);
+}
+
 /* The other policies and models, and a head as the drafter; too few draws, a source of prices that is none, no sequences. */
 static void plan_noon(latchmeander_settings gated) {
     static const double draws[8] = {0.25, 0.5, 0.75, 0.9, 0.1, 0.2, 0.3, 0.95};
@@ -154,6 +162,7 @@ static void plan_noon(latchmeander_settings gated) {
     latchmeander_ask ask = {.a = 7, .b = 2, .end = 43200.0, .sequences = 1, .source = LATCHMEANDER_ROOFLINE};
     settings.policy = LATCHMEANDER_GATED_BUDGET;
     plan_pair(settings, 2, 43199.0, 0, 2);
+    plan_bridged(settings);
     settings.model = LATCHMEANDER_CONSTANT, settings.alpha = 0.8, settings.policy = LATCHMEANDER_FIXED;
     plan(settings, ask, draws, 8, no_numbers, 0);
     settings.policy = LATCHMEANDER_GOODPUT_BUDGET, ask.sequences = 2;
@@ -176,7 +185,9 @@ static void plan_evening(latchmeander_settings gated) {
     plan_pair(gated, 1, 72000.0, 0, 4);
     wrong.policy = 4;
     plan_pair(wrong, 1, 72000.0, 0, 3);
-    wrong.policy = LATCHMEANDER_FIXED, wrong.cost_ms = -1.0;
+    wrong.policy = LATCHMEANDER_FIXED, wrong.prices = 2;
+    plan_pair(wrong, 1, 72000.0, 0, 3);
+    wrong.prices = LATCHMEANDER_PRICES_DEFAULT, wrong.cost_ms = -1.0;
     plan_pair(wrong, 1, 72000.0, 0, 3);
     wrong = gated, wrong.gamma = 65;
     plan_pair(wrong, 1, 72000.0, 0, 3);
@@ -184,7 +195,7 @@ static void plan_evening(latchmeander_settings gated) {
     plan_pair(gated, 1, 72000.0, 0, 3);
     rates.kv_delta = 0.0;
     show_series();
-    for (int i = 0; i < 6; i++) withdraw();
+    for (int i = 0; i < 8; i++) withdraw();
     show_worker(1);
     withdraw();
     show_worker(1);
