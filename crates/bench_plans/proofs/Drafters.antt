@@ -1,4 +1,4 @@
--- The drafter of each kind and the mode of each number, and an answer for a drafter, rates and a mode that are known. Assumes nothing.
+-- The drafter of each kind, and an answer for a drafter, rates and a mode that are known. Assumes nothing.
 use mathlib.Core.Path.{_≡_, ap, _∙_}
 use Prim.Native.Nat.{ℕ}
 use borrow.Author.Tests.{eq-eqb, ne-eqb}
@@ -7,9 +7,8 @@ use Rattle.speculative.specs.declared.drafter.DrafterCost.{DrafterCost}
 use Rattle.speculative.specs.declared.drafter.DrafterCost.the-variants.{Fraction, Autoregressive, BlockParallel}
 use Rattle.speculative.specs.declared.drafter.Rates.{Rates}
 use Rattle.verify_prices.specs.declared.PriceMode.{PriceMode}
-use Rattle.verify_prices.specs.declared.PriceMode.the-variants.{Default, Bridged}
 use Rattle.gates.specs.Entry.{Left}
-use Rattle.bench_plans.specs.Figures.{drafterOf, modeOf}
+use Rattle.bench_plans.specs.Figures.{drafterOf}
 
 module _ (kind : ℕ) (a b : Float) (c d e : ℕ) where
   pub fraction : kind ≡ 0 → Fraction a ≡ drafterOf kind a b c d e
@@ -23,15 +22,6 @@ module _ (kind : ℕ) (a b : Float) (c d e : ℕ) where
   pub block-head : (kind ≡ 0 → ⊥) → (kind ≡ 1 → ⊥) → BlockParallel a c ≡ drafterOf kind a b c d e
   unfolding drafterOf
   block-head n m = rw (ne-eqb kind 0 n, ne-eqb kind 1 m)
-
-module _ (k : ℕ) where
-  pub default : k ≡ 0 → Default ≡ modeOf k
-  unfolding modeOf
-  default h = rw (eq-eqb k 0 h)
-
-  pub bridged : (k ≡ 0 → ⊥) → Bridged ≡ modeOf k
-  unfolding modeOf
-  bridged n = rw (ne-eqb k 0 n)
 
 pub put-both : {A : Type 0} → (f : DrafterCost → Rates → A) → (d d' : DrafterCost) → (r r' : Rates) → (x : A) → d ≡ d' → r ≡ r' → x ≡ f d r → x ≡ f d' r'
 put-both f d d' r r' x p q e = e ∙ (ap (λ (k : DrafterCost). f k r) p ∙ ap (λ (s : Rates). f d' s) q)

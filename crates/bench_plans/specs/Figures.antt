@@ -6,8 +6,6 @@ use lib.Ieee.{Float, binary64, ofBits}
 use Rattle.speculative.specs.declared.drafter.DrafterCost.{DrafterCost}
 use Rattle.speculative.specs.declared.drafter.DrafterCost.the-variants.{Fraction, Autoregressive, BlockParallel}
 use Rattle.speculative.specs.declared.drafter.Rates.{Rates}
-use Rattle.verify_prices.specs.declared.PriceMode.{PriceMode}
-use Rattle.verify_prices.specs.declared.PriceMode.the-variants.{Default, Bridged}
 use Rattle.goodput.specs.declared.depth.Depth.{Depth}
 use Rattle.goodput.specs.declared.depth.Depth.the-variants.{Best, Refused}
 use Rattle.gates.specs.declared.Gated.{Gated}
@@ -24,10 +22,6 @@ drafterOf kind a b c d e = cond (eqb kind 0) (Fraction a) (cond (eqb kind 1) (Au
 -- no correction for the length of the contexts
 unfoldable pub ratesOf : Float → Float → Rates
 ratesOf peak bw = record { peak = peak; bw = bw; «kv_delta» = ofBits binary64 0 }
-
--- any number but 0 is bridged
-unfoldable pub modeOf : ℕ → PriceMode
-modeOf mode = cond (eqb mode 0) Default Bridged
 
 -- the greatest number stands for a refusal
 unfoldable pub depthOf : Depth → ℕ

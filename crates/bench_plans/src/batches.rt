@@ -4,12 +4,13 @@ use goodput::depth::Depth;
 use goodput::expected::Answer;
 use speculative::drafter::DrafterCost;
 use speculative::drafter::Rates;
-use verify_prices::PriceMode;
+use verify_prices::inner::mode_of;
 ghost use mathlib.Core.Path.{_≡_};
 ghost use Rattle.goodput.specs.Expected.{expectedByDepth, answerNumber};
 ghost use Rattle.goodput.specs.Depth.{depthAnswer};
+ghost use Rattle.verify_prices.specs.Rule.{modeOf};
 ghost use Rattle.gates.specs.Entry.{raggedAnswer, blockAnswer};
-ghost use Rattle.bench_plans.specs.Figures.{drafterOf, ratesOf, modeOf, weighedOf, depthOf};
+ghost use Rattle.bench_plans.specs.Figures.{drafterOf, ratesOf, weighedOf, depthOf};
 
 // The drafter of a kind: 0 a fraction, 1 an autoregressive head, any other a block head. `a` and `b` are its sizes, the rest its counts.
 pub fn drafter_of(kind: u32, a: f64, b: f64, c: u32, d: u32, e: u32) -> DrafterCost
@@ -42,16 +43,6 @@ pub fn rates_of(peak: f64, bw: f64) -> Rates
         bw,
         kv_delta: 0.0,
     }
-}
-
-// 0 the default, any other number bridged.
-fn mode_of(mode: u32) -> PriceMode
-    ensures { λ r. ⌜ r ≡ modeOf mode ⌝ }
-{
-    if mode == 0 {
-        return PriceMode::Default;
-    }
-    PriceMode::Bridged
 }
 
 // The slots weighed; 2^64 - 1 where the gate is refused.

@@ -72,7 +72,7 @@ fn grow(widths: &mut [u32], k: usize) -> u32
     w
 }
 
-// The verdict on the next slot of sequence k.
+// The verdict on the next slot of sequence k. The mode is asked for first, so that the default price is worked out in line.
 fn weigh(
     chains: &[f64],
     mode: PriceMode,

@@ -13,13 +13,12 @@ use Rattle.goodput.specs.Expected.{Left as Values, answerNumber}
 use Rattle.speculative.specs.declared.drafter.DrafterCost.{DrafterCost}
 use Rattle.speculative.specs.declared.drafter.Rates.{Rates}
 use Rattle.verify_prices.specs.declared.PriceMode.{PriceMode}
-use Rattle.verify_prices.specs.declared.PriceMode.the-variants.{Default, Bridged}
 use Rattle.gates.specs.declared.Gated.{Gated}
 use Rattle.gates.specs.Entry.{Left}
 use Rattle.exported.specs.declared.Told.{Told}
 use Rattle.exported.specs.Telling.{told}
 use Rattle.exported_costs.proofs.Handed.{asked-of}
-use Rattle.exported_batches.specs.Answers.{sourceOf, modeOf, pricesTold, survivalTold, gatedTold, valuesLeft, widthsLeft}
+use Rattle.exported_batches.specs.Answers.{sourceOf, pricesTold, survivalTold, gatedTold, valuesLeft, widthsLeft}
 
 module _ (k : ℕ) where
   pub roofline : k ≡ 0 → Roofline ≡ sourceOf k
@@ -29,14 +28,6 @@ module _ (k : ℕ) where
   pub table : (k ≡ 0 → ⊥) → Table ≡ sourceOf k
   unfolding sourceOf
   table n = rw (ne-eqb k 0 n)
-
-  pub default : k ≡ 0 → Default ≡ modeOf k
-  unfolding modeOf
-  default h = rw (eq-eqb k 0 h)
-
-  pub bridged : (k ≡ 0 → ⊥) → Bridged ≡ modeOf k
-  unfolding modeOf
-  bridged n = rw (ne-eqb k 0 n)
 
 module _ (at : ℕ) (prices : List Float) where
   pub price-there : (bits : ℕ) → (r : Told) → r ≡ told 0 (length prices) bits → bits ≡ toBits binary64 (getD prices at nan) → at < length prices → r ≡ pricesTold at prices

@@ -13,8 +13,6 @@ use Rattle.goodput.specs.declared.pricing.Cost.the-variants.{Seconds, Refused a
 use Rattle.goodput.specs.declared.depth.Depth.{Depth}
 use Rattle.goodput.specs.declared.depth.Depth.the-variants.{Best, Refused as NoDepth}
 use Rattle.goodput.specs.Expected.{Left as Values, answerNumber}
-use Rattle.verify_prices.specs.declared.PriceMode.{PriceMode}
-use Rattle.verify_prices.specs.declared.PriceMode.the-variants.{Default, Bridged}
 use Rattle.gates.specs.declared.Gated.{Gated}
 use Rattle.gates.specs.declared.Gated.the-variants.{Weighed, Refused as NotGated}
 use Rattle.gates.specs.Entry.{Left}
@@ -24,10 +22,6 @@ use Rattle.exported.specs.Telling.{told}
 -- the source of a number, any but 0 the table
 unfoldable pub sourceOf : ℕ → Source
 sourceOf source = cond (eqb source 0) Roofline Table
-
--- the price mode of a number, any but 0 bridged
-unfoldable pub modeOf : ℕ → PriceMode
-modeOf mode = cond (eqb mode 0) Default Bridged
 
 -- how many prices, and the one at a place, 0 past the last
 unfoldable pub pricesTold : ℕ → List Float → Told

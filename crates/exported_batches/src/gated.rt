@@ -2,21 +2,12 @@
 use crate::answers;
 use exported::Told;
 use exported_costs::asked;
-use verify_prices::PriceMode;
+use verify_prices::inner::mode_of;
 ghost use mathlib.Core.Path.{_≡_};
 ghost use Rattle.gates.specs.Entry.{raggedAnswer, blockAnswer};
 ghost use Rattle.exported_costs.specs.Asked.{drafterOf, ratesOf};
-ghost use Rattle.exported_batches.specs.Answers.{modeOf, widthsLeft};
-
-// 0 the default, any other number bridged.
-fn mode_of(mode: u32) -> PriceMode
-    ensures { λ r. ⌜ r ≡ modeOf mode ⌝ }
-{
-    if mode == 0 {
-        return PriceMode::Default;
-    }
-    PriceMode::Bridged
-}
+ghost use Rattle.verify_prices.specs.Rule.{modeOf};
+ghost use Rattle.exported_batches.specs.Answers.{widthsLeft};
 
 // `first` is how many slots were weighed; the widths stand at the front of `widths`.
 #[no_mangle]

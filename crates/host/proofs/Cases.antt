@@ -9,7 +9,6 @@ use Rattle.acceptance.specs.declared.AcceptanceModel.the-variants.{Constant, Pe
 use Rattle.goodput.specs.declared.curve.Source.{Source}
 use Rattle.goodput.specs.declared.curve.Source.the-variants.{Roofline, Table}
 use Rattle.verify_prices.specs.declared.PriceMode.{PriceMode}
-use Rattle.verify_prices.specs.declared.PriceMode.the-variants.{Default, Bridged}
 use Rattle.settings.specs.declared.Policy.{Policy}
 use Rattle.settings.specs.declared.Policy.the-variants.{Fixed, GoodputBudget, GatedBudget, GatedAggregate}
 use Rattle.settings.specs.declared.Settings.{Settings}
@@ -22,7 +21,7 @@ use Rattle.switch_settings.specs.declared.SwitchConstraints.{SwitchConstraints}
 use Rattle.asked_rooms.specs.declared.Ask.{Ask}
 use Rattle.host.specs.declared.asked.HostSettings.{HostSettings}
 use Rattle.host.specs.declared.asked.HostAsk.{HostAsk}
-use Rattle.host.specs.Asked.{settingsFit, askFits, modelOf, policyOf, stepOf, pricesOf, sourceOf, drafterOf}
+use Rattle.host.specs.Asked.{settingsFit, askFits, modelOf, policyOf, stepOf, sourceOf, drafterOf}
 
 module _ (k : ℕ) (alpha : Float) where
   pub constant : k ≡ 0 → Constant alpha ≡ modelOf k alpha
@@ -53,14 +52,6 @@ module _ (k : ℕ) where
   pub aggregate : (k ≡ 0 → ⊥) → (k ≡ 1 → ⊥) → (k ≡ 2 → ⊥) → GatedAggregate ≡ policyOf k
   unfolding policyOf
   aggregate n m l = rw (ne-eqb k 0 n, ne-eqb k 1 m, ne-eqb k 2 l)
-
-  pub default : k ≡ 0 → Default ≡ pricesOf k
-  unfolding pricesOf
-  default h = rw (eq-eqb k 0 h)
-
-  pub bridged : (k ≡ 0 → ⊥) → Bridged ≡ pricesOf k
-  unfolding pricesOf
-  bridged n = rw (ne-eqb k 0 n)
 
   pub roofline : k ≡ 0 → Roofline ≡ sourceOf k
   unfolding sourceOf

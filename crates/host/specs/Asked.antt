@@ -13,8 +13,7 @@ use Rattle.switch_settings.specs.declared.MaxStep.the-variants.{Unlimited, AtMo
 use Rattle.switch_settings.specs.declared.SwitchConstraints.{SwitchConstraints}
 use Rattle.goodput.specs.declared.curve.Source.{Source}
 use Rattle.goodput.specs.declared.curve.Source.the-variants.{Roofline, Table}
-use Rattle.verify_prices.specs.declared.PriceMode.{PriceMode}
-use Rattle.verify_prices.specs.declared.PriceMode.the-variants.{Default, Bridged}
+use Rattle.verify_prices.specs.Rule.{modeOf}
 use Rattle.settings.specs.declared.Policy.{Policy}
 use Rattle.settings.specs.declared.Policy.the-variants.{Fixed, GoodputBudget, GatedBudget, GatedAggregate}
 use Rattle.settings.specs.declared.Settings.{Settings}
@@ -39,9 +38,6 @@ policyOf policy = cond (eqb policy 0) Fixed (cond (eqb policy 1) GoodputBudget (
 unfoldable pub stepOf : ℕ → ℕ → MaxStep
 stepOf steps most = cond (eqb steps 0) Unlimited (AtMost most)
 
-unfoldable pub pricesOf : ℕ → PriceMode
-pricesOf prices = cond (eqb prices 0) Default Bridged
-
 unfoldable pub sourceOf : ℕ → Source
 sourceOf source = cond (eqb source 0) Roofline Table
 
@@ -58,7 +54,7 @@ abbrev pub ratesOf : HostRates → Rates
 ratesOf r = record { peak = r .peak; bw = r .bw; «kv_delta» = r .«kv_delta» }
 
 abbrev pub settingsOf : HostSettings → Settings
-settingsOf s = record { gamma = s .gamma; model = modelOf (s .model) (s .alpha); policy = policyOf (s .policy); switch = switchOf s; drafter = drafterOf s; prices = pricesOf (s .prices) }
+settingsOf s = record { gamma = s .gamma; model = modelOf (s .model) (s .alpha); policy = policyOf (s .policy); switch = switchOf s; drafter = drafterOf s; prices = modeOf (s .prices) }
 
 abbrev pub askOf : HostAsk → Ask
 askOf a =

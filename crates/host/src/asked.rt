@@ -8,9 +8,9 @@ use speculative::drafter::DrafterCost;
 use speculative::drafter::Rates;
 use switch_settings::MaxStep;
 use switch_settings::SwitchConstraints;
-use verify_prices::PriceMode;
+use verify_prices::inner::mode_of;
 ghost use mathlib.Core.Path.{_≡_};
-ghost use Rattle.host.specs.Asked.{modelOf, policyOf, stepOf, drafterOf, pricesOf, sourceOf, switchOf, ratesOf, settingsOf, askOf, settingsFit, askFits};
+ghost use Rattle.host.specs.Asked.{modelOf, policyOf, stepOf, drafterOf, sourceOf, switchOf, ratesOf, settingsOf, askOf, settingsFit, askFits};
 
 // `policy`, `model`, `steps`, `drafter` and `prices` are numbers of cases. Only the fields of the case that is named are read.
 #[repr(C)]
@@ -148,16 +148,6 @@ pub fn drafter_of(s: HostSettings) -> DrafterCost
     }
 }
 
-// 0 the default, 1 bridged.
-fn prices_of(prices: u32) -> PriceMode
-    ensures { λ r. ⌜ r ≡ pricesOf prices ⌝ }
-{
-    if prices == 0 {
-        return PriceMode::Default;
-    }
-    PriceMode::Bridged
-}
-
 // 0 the roofline, 1 the table.
 fn source_of(source: u32) -> Source
     ensures { λ r. ⌜ r ≡ sourceOf source ⌝ }
@@ -196,7 +186,7 @@ pub fn settings_of(s: HostSettings) -> Settings
     let policy = policy_of(s.policy);
     let switch = switch_of(s);
     let drafter = drafter_of(s);
-    let prices = prices_of(s.prices);
+    let prices = mode_of(s.prices);
     Settings {
         gamma: s.gamma,
         model,

@@ -1,7 +1,7 @@
 // The registers, a word each: the drafter (0 to 5), peak, bw and kv_delta (6 to 8), gamma (9), the model's kind (10: 0 Constant,
 // 1 PerPosition, 2 Trace) and its alpha (11), the policy (12: 0 Fixed, 1 GoodputBudget, 2 GatedBudget, 3 GatedAggregate), cooldown_rounds (13),
 // whether there is a max_step and which (14, 15), cost_ms (16), whether there is a table (17) and its rows (18), the bank's depth and rounds
-// (19, 20), the lengths of the lists (21 to 31), and the price mode (32: 0 Default, else Bridged).
+// (19, 20), the lengths of the lists (21 to 31), and the price mode (32: 0 Default, 1 Bridged).
 use crate::lists::LISTS;
 use acceptance::AcceptanceModel;
 use asking::Ask;
@@ -12,7 +12,7 @@ use settings::Policy;
 use settings::Settings;
 use switch_settings::MaxStep;
 use switch_settings::SwitchConstraints;
-use verify_prices::PriceMode;
+use verify_prices::inner::mode_of;
 
 // How many registers there are.
 pub const REGISTERS: usize = 33;
@@ -92,19 +92,12 @@ fn switch(registers: &[u64]) -> SwitchConstraints {
     }
 }
 
-fn prices(registers: &[u64]) -> PriceMode {
-    if words::at(registers, 32) == 0 {
-        return PriceMode::Default;
-    }
-    PriceMode::Bridged
-}
-
 pub fn settings(registers: &[u64]) -> Settings {
     let model = model(registers);
     let policy = policy(registers);
     let switch = switch(registers);
     let drafter = drafters::drafter_of(registers);
-    let prices = prices(registers);
+    let prices = mode_of(words::whole_at(registers, 32));
     Settings {
         gamma: words::whole_at(registers, 9),
         model,

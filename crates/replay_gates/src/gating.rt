@@ -7,7 +7,7 @@ use cases::words;
 use gates::Gated;
 use plan_words::drafters;
 use plan_words::lent_chains;
-use verify_prices::PriceMode;
+use verify_prices::inner::mode_of;
 ghost use Prim.Native.Nat.{_≤_};
 ghost use lib.ListN.{length};
 
@@ -127,13 +127,6 @@ fn gate_in(
     answers::put_whole_numbers(ours, at, widths)
 }
 
-fn mode(input: &[u64]) -> PriceMode {
-    if words::at(input, MODE) == 0 {
-        return PriceMode::Default;
-    }
-    PriceMode::Bridged
-}
-
 fn gate(
     kind: u8,
     input: &[u64],
@@ -144,7 +137,7 @@ fn gate(
     widths: &mut [u32],
 ) -> Gated {
     let gamma = words::whole_at(input, 9);
-    let mode = mode(input);
+    let mode = mode_of(words::whole_at(input, MODE));
     let head = drafters::drafter_of(input);
     let rates = drafters::rates_at(input, 6, 7, 8);
     if kind == b'r' {

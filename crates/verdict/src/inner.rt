@@ -42,7 +42,7 @@ fn tallied(expected: f64, tokens: f64, drafter: f64, price: f64) -> Tally
     }
 }
 
-// What a gate starts from.
+// What a gate starts from. Here and below the mode is asked for before the price, so that the default price is worked out in line.
 pub fn starting(
     expected: f64,
     tokens: f64,

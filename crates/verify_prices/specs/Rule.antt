@@ -1,8 +1,9 @@
 -- The pricing rule of each mode: what a gate is defined and proved over. Assumes nothing.
 use Prim.Native.Nat.{ℕ, _+_, _≤_, _<_}
 use mathlib.Core.Path.{_≡_}
-use mathlib.Core.Bool.{Bool, false, not}
+use mathlib.Core.Bool.{Bool, false, not, cond}
 use mathlib.Core.List.{List}
+use lib.Dec.{eqb}
 use lib.ListN.{length, getD}
 use lib.Ieee.{Float}
 use Rattle.float.specs.Floats.{isFinite}
@@ -10,6 +11,10 @@ use Rattle.verify_prices.specs.Price.{verifyCost}
 use Rattle.verify_prices.specs.Bridge.{lower, upper, bridgedCost}
 use Rattle.verify_prices.specs.declared.PriceMode.{PriceMode}
 use Rattle.verify_prices.specs.declared.PriceMode.the-variants.{Default, Bridged}
+
+-- the mode that a number stands for, any but 0 bridged
+unfoldable pub modeOf : ℕ → PriceMode
+modeOf number = cond (eqb number 0) Default Bridged
 
 -- `price t` is the verify price of t tokens in all; `shut c`: nothing is given back to the price c
 pub record Rule : Type 0 where

@@ -7,7 +7,17 @@ ghost use mathlib.Core.Path.{_≡_};
 ghost use Prim.Native.Nat.{_<_, _≤_};
 ghost use lib.ListN.{length};
 ghost use Rattle.verify_prices.specs.Price.{verifyCost};
-ghost use Rattle.verify_prices.specs.Rule.{priceBy, shutBy, Priced};
+ghost use Rattle.verify_prices.specs.Rule.{modeOf, priceBy, shutBy, Priced};
+
+// The mode that a number stands for: 0 the default, any other bridged. Who refuses a number that stands for none does so first.
+pub fn mode_of(number: u32) -> PriceMode
+    ensures { λ r. ⌜ r ≡ modeOf number ⌝ }
+{
+    if number == 0 {
+        return PriceMode::Default;
+    }
+    PriceMode::Bridged
+}
 
 // The curve's price at that mean width, straight between the two depths around it.
 pub fn verify_cost(curve: &[f64], n: u32, t: f64) -> f64

@@ -16,11 +16,11 @@ switch-of-requires c κs = search needs
 drafter-of-requires : tie.Need-drafter-of-requires
 drafter-of-requires c κs = search needs
 
-prices-of-requires : tie.Need-prices-of-requires
-prices-of-requires c κs = search needs
+mode-of-requires : tie.Need-mode-of-requires
+mode-of-requires c κs = search needs
 
 returns : tie.Need-returns
-returns c = all-set (c .before .before .before .before .before .args .s .gamma) _ _ _ _ _ _ _ _ _ _ (c .before .before .before .before .model-of .ensures) (c .before .before .before .policy-of .ensures) (c .before .before .switch-of .ensures) (c .before .drafter-of .ensures) (c .prices-of .ensures)
+returns c = all-set (c .before .before .before .before .before .args .s .gamma) _ _ _ _ _ _ _ _ _ _ (c .before .before .before .before .model-of .ensures) (c .before .before .before .policy-of .ensures) (c .before .before .switch-of .ensures) (c .before .drafter-of .ensures) (c .mode-of .ensures)
 
 pub settings-of-spec : {M : Type 1} → statement M
 settings-of-spec =
@@ -30,5 +30,5 @@ settings-of-spec =
     policy-of-requires
     switch-of-requires
     drafter-of-requires
-    prices-of-requires
+    mode-of-requires
     returns)
