@@ -7,3 +7,4 @@ pub mod Next
 pub mod Tops
 pub mod Steps
 pub mod Turns
+pub mod Passing

@@ -1,4 +1,4 @@
 pub mod Adding
 pub mod Trimming
-mod Passing
+mod NoneOf
 mod Rest

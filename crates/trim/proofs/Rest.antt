@@ -11,6 +11,7 @@ use Rattle.float.specs.Floats.{plus, less, f1}
 use Rattle.heap.specs.Greedy.{headOf, tailOf, frontier, leaves, greedy}
 use Rattle.heap.proofs.Frontiers.{in-frontier}
 use Rattle.heap.proofs.Steps.{on-head}
+use Rattle.heap.proofs.Passing.{going-over}
 use Rattle.verify_prices.specs.Rule.{Rule}
 use Rattle.verdict.specs.Decision.{Sums, Decision, passed, taken, takenIf, rateOf, removalAt, removalUnder}
 use Rattle.verdict.specs.Tallies.{sumsOf, Rated}
@@ -23,7 +24,7 @@ use Rattle.trim.specs.Ragged.{fullDraft, dropSlot}
 use Rattle.trim.specs.Kept.{Counts, listed, paysUnder, noneOf, Weighable}
 use Rattle.trim.proofs.Adding.{still-few}
 use Rattle.trim.proofs.Trimming.{Open, Trimming, drop-judged, count-here, count-some}
-use Rattle.trim.proofs.Passing.{none-says, going-over}
+use Rattle.trim.proofs.NoneOf.{none-says}
 
 -- a slot that does not pay is passed over
 pass-over :

@@ -9,7 +9,7 @@ use lib.ListN.{length, drop}
 use denote.Ref.{now}
 use Rattle.verify_prices.specs.Rule.{shutBy}
 use Rattle.trim.specs.Kept.{paysAt, noneOf}
-use Rattle.trim.proofs.Passing.{none-next, none-not, none-end}
+use Rattle.trim.proofs.NoneOf.{none-next, none-not, none-end}
 use borrow.Author.Needs.{needs}
 use Rattle.trim.proofs.left.none_pays.Statement.{statement}
 use Rattle.trim.proofs.left.none_pays.Tie as tie
