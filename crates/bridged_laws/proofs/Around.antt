@@ -16,7 +16,7 @@ use Rattle.float.specs.Floats.{less, whole, f0}
 use Rattle.float.proofs.Classes.{clash}
 use Rattle.float.proofs.Order.{nlt-trans}
 use Rattle.verify_prices.specs.Bridge.{footOf, ceilingOf}
-use Rattle.gates_laws.proofs.Prices.{whole-value}
+use Rattle.verify_prices.proofs.Counted.{whole-value}
 use Rattle.bridged_laws.proofs.Compared.{le-is, ltb-scaled, Unsigned, below-held, above-held, whole-number, large}
 use Rattle.bridged_laws.proofs.Ways.{some-way, no-way}
 

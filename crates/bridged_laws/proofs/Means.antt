@@ -16,8 +16,9 @@ use Rattle.float.proofs.Rounded.{round-clear}
 use Rattle.numeral.proofs.Rounding.{round-neg}
 use Rattle.verify_prices.specs.Price.{meanWidth}
 use Rattle.verify_prices.specs.Bridge.{footOf, ceilingOf}
+use Rattle.verify_prices.proofs.Counted.{whole-value}
 use Rattle.gates_laws.proofs.Powers.{not-none}
-use Rattle.gates_laws.proofs.Prices.{whole-value, not-below-zero}
+use Rattle.gates_laws.proofs.Prices.{not-below-zero}
 use Rattle.bridged_laws.proofs.Around.{Around, around}
 
 zero-fits : T (fits binary64 f0)

@@ -1,23 +1,17 @@
 -- What a greedy gate keeps from turn to turn, whatever its state is, and so two gates that agree on what is kept; sums of widths; one token more. Assumes nothing.
-use Prim.Native.Nat.{ℕ, zero, suc, _+_, _*_, _^_, _≤_, _<_}
-use mathlib.Core.Path.{_≡_, refl, ap, _∙_, sym}
-use mathlib.Core.Bool.{true, false}
+use Prim.Native.Nat.{ℕ, zero, suc, _+_, _^_, _≤_, _<_}
+use mathlib.Core.Path.{_≡_, refl, ap, _∙_}
 use mathlib.Core.List.{List, [], _∷_}
-use native.Mathlib.Nat.{mul-one, one-mul, add-mul, mul-pos, zero-lt-suc}
 use native.Mathlib.Omega.{arith}
 use lib.ListN.{length, getD, set, length-map}
-use lib.Ieee.{Float, nan, inf, fin, binary64, up, down, round, sum as added, add, ofBits, ofInt}
-use lib.Ieee.Fits.{down-pos}
-use lib.Ieee.Exact.{HasValue}
-use lib.Ieee.Scale.{round-same}
+use lib.Ieee.{ofBits, ofInt}
 use Rattle.float.specs.Floats.{plus, whole, f1}
-use Rattle.float.proofs.Classes.{clash}
 use Rattle.heap.specs.Frontier.{Choice, nobody, chosen, next}
 use Rattle.heap.specs.Greedy.{Stacks, headOf, tailOf, frontier, total, Verdict, takes, leaves, stops, Outcome, afterwards, upon, run, greedy}
 use Rattle.heap.proofs.Next.{next-first}
 use Rattle.heap.proofs.Frontiers.{in-frontier}
 use Rattle.slots.specs.Slots.{sum}
-use Rattle.gates_laws.proofs.Prices.{whole-value}
+use Rattle.verify_prices.proofs.Counted.{whole-plus}
 
 -- the sequence that is chosen is one of the stacks'
 pub chosen-place : (s : Stacks) (k r : ℕ) → next (frontier s) ≡ chosen k r → k < length s
@@ -65,17 +59,9 @@ sum-under (w ∷ ws) [] l h = absurd (omega arith)
 sum-under (w ∷ ws) (c ∷ caps) l h = omega (arith, h 0 (omega arith), sum-under ws caps (omega arith) (λ k i. h (suc k) (omega arith)))
 
 -- ---- one token more
-more-by-one : (a : ℕ) (x : Float) → HasValue x false a 1 → plus x f1 ≡ round binary64 false (a + 1) 1
-unfolding add added ofBits
-more-by-one a nan v = absurd v
-more-by-one a (inf s) v = absurd v
-more-by-one a (fin true m e) v = let w = v .0 in clash (sym w)
-more-by-one a (fin false m e) v =
-    let q : m * up e * 1 ≡ a * down e = v .1 in
-    let d : (a + 1) * (down e * 1) ≡ a * down e + down e = ap (λ (z : ℕ). (a + 1) * z) (mul-one (down e)) ∙ add-mul a 1 (down e) ∙ ap (λ (z : ℕ). a * down e + z) (one-mul (down e)) in
-    round-same binary64 false (m * up e * 1 + 1 * 1 * down e) (down e * 1) (a + 1) 1 (mul-pos (down-pos e) (zero-lt-suc 0)) (zero-lt-suc 0)
-    (let z : (m * up e * 1 + 1 * 1 * down e) * 1 ≡ (a + 1) * (down e * 1) = omega (arith, q, d) in z)
+one : f1 ≡ whole 1
+unfolding ofBits ofInt
+one = refl
 
 pub whole-more : (m : ℕ) → m < 2 ^ 53 → plus (whole m) f1 ≡ whole (m + 1)
-unfolding ofInt
-whole-more m h = more-by-one m (whole m) (whole-value m h)
+whole-more m h = ap (plus (whole m)) one ∙ whole-plus m 1 h (omega arith)

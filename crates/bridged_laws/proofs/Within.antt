@@ -19,10 +19,10 @@ use Rattle.float.proofs.Rounded.{round-clear}
 use Rattle.numeral.proofs.Rounding.{quotient-rounds}
 use Rattle.verify_prices.specs.Price.{meanWidth}
 use Rattle.verify_prices.specs.Bridge.{isMeasured, footOf}
+use Rattle.verify_prices.proofs.Counted.{whole-value}
 use Rattle.gates_laws.specs.Holes.{isInside}
 use Rattle.gates_laws.proofs.Sizes.{Sized, sized-more, round-sized, or-le}
 use Rattle.gates_laws.proofs.Powers.{not-above}
-use Rattle.gates_laws.proofs.Prices.{whole-value}
 use Rattle.bridged_laws.proofs.Compared.{whole-number, le-is}
 use Rattle.bridged_laws.proofs.Means.{mean-around}
 use Rattle.bridged_laws.proofs.Inside.{inside-by}

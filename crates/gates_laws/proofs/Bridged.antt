@@ -15,13 +15,14 @@ use Rattle.float.specs.Floats.{plus, less, times, over, whole, f0, infinity, is
 use Rattle.float.proofs.Classes.{clash, is-nan, finite-no-nan}
 use Rattle.verify_prices.specs.Price.{meanWidth}
 use Rattle.verify_prices.specs.Bridge.{isMeasured, lower, upper, straight, footOf, ceilingOf, bridgedCost}
+use Rattle.verify_prices.proofs.Counted.{whole-value}
 use Rattle.verify_prices.proofs.Spans.{lower-le, upper-ge, upper-le, upper-here}
 use Rattle.verify_prices.proofs.Between.{ceiling-between}
 use Rattle.gates_laws.specs.Entries.{Curve}
 use Rattle.gates_laws.specs.Holes.{isInside}
 use Rattle.gates_laws.proofs.Sizes.{Sized, sized-finite, sized-more, whole-sized, sized-less}
 use Rattle.gates_laws.proofs.Powers.{Within, within-more, within-over}
-use Rattle.gates_laws.proofs.Prices.{whole-value, width-sized, nan-part, Entry, entry-of, way-within}
+use Rattle.gates_laws.proofs.Prices.{width-sized, nan-part, Entry, entry-of, way-within}
 
 -- ---- straight between two entries
 priced : (c : Float) → Entry c → isFinite c ≡ true → Within 57 c

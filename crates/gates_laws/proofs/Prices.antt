@@ -10,7 +10,7 @@ use native.Mathlib.Omega.{arith}
 use borrow.Author.Tests.{ltb-false, ltb-true, le-ltb, ne-eqb}
 use lib.Dec.{ltb}
 use lib.ListN.{length, getD}
-use lib.Ieee.{Float, nan, inf, fin, binary64, up, down, ofBits, ofInt, neg, add, sub, mul, lt, eq, isNan}
+use lib.Ieee.{Float, nan, inf, fin, up, down, ofBits, neg, add, sub, mul, lt, eq, isNan}
 use lib.Ieee.Fits.{down-pos}
 use lib.Ieee.Exact.{HasValue}
 use Rattle.float.specs.Floats.{plus, less, times, over, whole, f0, f1, infinity, maxOf, isFinite}
@@ -19,10 +19,10 @@ use Rattle.float.proofs.Classes.{clash, is-nan, finite-no-nan}
 use Rattle.float.proofs.Order.{nan-not-above}
 use Rattle.float.proofs.Ranges.{range-no-nan, range-low, range-high, or-says, signed-no-nan, signed-low, signed-high, in-signed}
 use Rattle.float.proofs.Clamped.{clamp-low, clamp-high}
-use Rattle.numeral.proofs.Rounding.{whole-held}
 use Rattle.speculative.specs.Drafter.{billion}
 use Rattle.chains.specs.Tests.{isPrice}
 use Rattle.verify_prices.specs.Price.{meanWidth, verifyCost}
+use Rattle.verify_prices.proofs.Counted.{whole-value}
 use Rattle.verdict.specs.Decision.{tiny, rateOf, Sums, passed, nextSeconds, slotAt}
 use Rattle.gates_laws.specs.Holes.{finite, classOf, isHole, depthBelow, isBehind, entryBelow, entryAbove, classAt}
 use Rattle.gates_laws.specs.Entries.{mostPrice, isEntry, Curve}
@@ -58,10 +58,6 @@ between-sized (fin false m e) (fin false k d) A v n l h =
     let q : k * up d ≡ A * down d = sym (mul-one (k * up d)) ∙ v .1 in
     let r : k * up d * down e ≡ A * down e * down d = ap (λ (z : ℕ). z * down e) q ∙ mul-right-comm A (down d) (down e) in
     le-of-mul-le-mul-right (le-trans p (le-of-eq r)) (down-pos d)
-
-pub whole-value : (n : ℕ) → n < 2 ^ 53 → HasValue (whole n) false n 1
-unfolding ofInt
-whole-value n h = whole-held binary64 n h
 
 -- ---- the mean width is a NaN, or at most gamma
 held-not-below : (x : Float) (n : ℕ) → HasValue x false n 1 → lt x f0 ≡ false

@@ -9,15 +9,15 @@ use native.Mathlib.Omega.{arith}
 use borrow.Author.Tests.{ltb-false, eq-eqb, ne-eqb}
 use lib.Dec.{eqb}
 use lib.ListN.{length, getD}
-use lib.Ieee.{Float, nan, inf, fin, binary64, up, down, lt, eq, toUnsigned, ofInt}
+use lib.Ieee.{Float, nan, inf, fin, binary64, up, down, lt, eq, toUnsigned}
 use lib.Ieee.Fits.{down-pos, sub-fits}
 use lib.Ieee.Exact.{HasValue}
 use Rattle.float.specs.Floats.{plus, less, times, over, whole, f0, f1, isFinite}
 use Rattle.float.proofs.Classes.{clash}
 use Rattle.float.proofs.Clamped.{clamp-high}
-use Rattle.numeral.proofs.Rounding.{whole-held}
 use Rattle.verify_prices.specs.Price.{meanWidth, segment, between, verifyCost}
 use Rattle.verify_prices.specs.Bridge.{isMeasured, lower, upper, straight, footOf, ceilingOf, bridged, bridgedCost}
+use Rattle.verify_prices.proofs.Counted.{whole-value}
 use Rattle.verify_prices.proofs.Spans.{lower-here, upper-here}
 use Rattle.verify_prices.proofs.OverOne.{over-one}
 
@@ -49,10 +49,6 @@ cut-below (fin false m e) (fin false k d) g z v l n =
         pick : Dec (a ≡ b) → a < b
         pick (yes q) = absurd (ne q)
         pick (no q) = omega arith
-
-whole-value : (n : ℕ) → n < 2 ^ 53 → HasValue (whole n) false n 1
-unfolding ofInt
-whole-value n h = whole-held binary64 n h
 
 -- ---- the two prices
 module _ (curve : List Float) (many : 1 < length curve) (few : length curve ≤ 65) (whole-curve : (g : ℕ) → g < length curve → isMeasured curve g ≡ true) where
