@@ -1,12 +1,15 @@
 -- The block gate's side: a sequence's number is how many of its slots are taken, and what is left of its chain lies below the head. Assumes nothing.
-use Prim.Native.Nat.{ℕ, _+_, _*_, _≤_, _<_}
+use Prim.Native.Nat.{ℕ, _+_, _-_, _*_, _≤_, _<_}
 use mathlib.Core.Path.{_≡_, refl, sym, ap, _∙_}
+use mathlib.Core.Bool.{Bool, true, false, cond}
 use mathlib.Core.List.{List, _∷_}
 use native.Mathlib.Omega.{arith}
 use lib.ListN.{getD, length, drop, replicate, getD-replicate, length-replicate, length-drop}
 use lib.Seq.{drop-drop}
-use lib.Ieee.{Float}
-use Rattle.verdict.specs.Decision.{Sums, Decision, slotAt}
+use lib.Ieee.{Float, lt}
+use Rattle.float.specs.Floats.{plus, isFinite}
+use Rattle.float.proofs.Classes.{clash}
+use Rattle.verdict.specs.Decision.{Sums, Decision, passed, stopped, taken, takenIf, rateOf, rateNow, nextSeconds, slotAt}
 use Rattle.heap.specs.Heap.{Holds}
 use Rattle.heap.specs.Greedy as greedily
 use Rattle.heap.specs.Greedy.{Stacks, frontier}
@@ -14,6 +17,7 @@ use Rattle.slots.specs.Slots.{Fits, starts, upTo, stacks, survival}
 use Rattle.slots.specs.Gate.{State, judged}
 use Rattle.block.specs.Block.{addSlot}
 use Rattle.heap.proofs.Turns.{Left, Going, going-start, top-ok}
+use Rattle.heap.proofs.Passing.{going-over}
 use Rattle.slots.proofs.Rooms.{Sized, few, k-low, widths-count}
 use Rattle.slots.proofs.Stacked.{up-short, stacks-length, stacks-at, starts-length, starts-narrow}
 
@@ -72,3 +76,28 @@ top-room {S = S} {lengths = lengths} depth fits sized at h =
     let low = k-low sized at h in
     let narrow = starts-narrow depth lengths (fits .narrow) (getD S 0 0) (omega (arith, low, fits .count, starts-length depth lengths)) in
     (omega (arith, low, fits .room), omega (arith, low, widths-count sized at), omega (arith, narrow, top-ok at h (few sized at)))
+
+-- ---- a slot that is passed over: the next price is not finite, whatever the slot, and so every slot that is left is passed over
+passes : Decision → Bool
+passes passed = true
+passes stopped = false
+passes (taken sums) = false
+
+module _ (price : Float → Float) (a : Sums) where
+  passed-all : (s s′ : Float) → passed ≡ slotAt price a s → slotAt price a s′ ≡ passed
+  unfolding takenIf passes
+  passed-all s s′ e = go (isFinite (nextSeconds price a)) (lt (rateNow price a) (rateOf (plus (a .expected) s) (nextSeconds price a))) _ _ e
+    where
+      go : (b x : Bool) (sums : Sums) (d : Decision) → passed ≡ cond b (cond x (taken sums) stopped) passed → cond b d passed ≡ passed
+      go false x sums d h = refl
+      go true true sums d h = clash (ap passes (sym h))
+      go true false sums d h = clash (ap passes (sym h))
+
+pub growing-over :
+    (price : Float → Float) (c : List Float) (ws : List ℕ) (n : ℕ) {start : Sums} {R₀ S₀ R S : List ℕ} {a : State} {live w : ℕ}
+    (at : Growing price c ws n start R₀ S₀ R S a live w) → 0 < live
+    → passed ≡ slotAt price (a .sums) (survival c (getD S 0 0) (getD (a .widths) (getD S 0 0) 0))
+    → greedily.greedy (addSlot price c) (record { sums = start; widths = replicate n 0 }) (stacks upTo ws c) ≡ record { state = a; weighed = w + 1 + (live - 1) }
+growing-over price c ws n {a = a} {live = live} {w = w} at some e =
+    let count : w + live ≡ w + 1 + (live - 1) = omega arith in
+    going-over at (λ i l. slot-judged price c a _ _ passed (sym (passed-all price (a .sums) _ _ e))) ∙ ap (λ (m : ℕ). record { state = a; weighed = m }) count

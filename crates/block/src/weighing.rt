@@ -103,7 +103,8 @@ fn weigh(
     }
 }
 
-// Weighs slots until none is left or one does not pay; says how many.
+// Weighs slots until none is left or one does not pay; says how many. Where one is passed over so are all that are left: the price of one token more is
+// the same for each.
 fn weigh_all(
     chains: &[f64],
     lengths: &[u32],
@@ -138,7 +139,7 @@ fn weigh_all(
                 return weighed;
             }
             Verdict::Pass => {
-                live = heap::inner::settle(rank, seq, live, false, 0);
+                return weighed + (live - 1);
             }
             Verdict::Take(next) => {
                 tally = next;

@@ -8,7 +8,7 @@ use lib.Ieee.{Float}
 use lib.ListN.{length, getD, drop, length-replicate}
 use denote.Ref.{now}
 use Rattle.heap.specs.Greedy.{headOf, takes}
-use Rattle.heap.proofs.Turns.{going-done, going-stops, going-leaves, going-takes}
+use Rattle.heap.proofs.Turns.{going-done, going-stops, going-takes}
 use Rattle.verify_prices.specs.Rule.{priceBy}
 use Rattle.verdict.specs.Tallies.{sumsOf, decisionOf, Rated}
 use Rattle.verdict.specs.declared.inner.Tally.{Tally}
@@ -18,7 +18,7 @@ use Rattle.slots.specs.Slots.{starts, upTo}
 use Rattle.slots.specs.Gate.{State, judged, chosenBy}
 use Rattle.block.specs.Block.{blockFrom}
 use Rattle.slots.proofs.Stacked.{starts-at, up-short}
-use Rattle.block.proofs.Growing.{Growing, growing-starts, growing, further, slot-judged, top-room}
+use Rattle.block.proofs.Growing.{Growing, growing-starts, growing, growing-over, further, slot-judged, top-room}
 use Rattle.slots.proofs.Rooms.{fits-sized, fits-starts, few, live-few, widths-count, k-low, weighed-room}
 use borrow.Author.Needs.{needs}
 use Rattle.block.proofs.weighing.weigh_all.Statement.{statement}
@@ -88,21 +88,27 @@ returns c =
 enum-told-2 : tie.Need-enum-told-2 Inv-loop μ-loop
 enum-told-2 c = search needs
 
-settle-requires : tie.Need-settle-requires Inv-loop μ-loop
-settle-requires c κs = (omega (arith, c .before .before .before .before .before .before .before .before .loop .inv .0 .ranks-kept, c .before .before .before .before .before .before .before .before .loop .inv .0 .seqs-kept, live-few (fits-sized upTo up-short (fits-starts (c .before .before .before .before .before .before .before .before .before .before .before .before .before .before .before .before .args .depth) (c .before .before .before .before .before .before .before .before .before .before .before .before .before .before .before .before .pre .0))) (c .before .before .before .before .before .before .before .before .loop .inv .0), c .before .before .before .before .before .before .before .before .before .before .before .before .before .before .before .before .pre .1 .1 .0), c .before .before .before .before .before .before .before .before .loop .inv .0 .in-step .holds .order)
+sub-result : tie.Need-sub-result Inv-loop μ-loop
+sub-result c = search needs
 
-loop-less : tie.Need-loop-less Inv-loop μ-loop
-loop-less c = omega (arith, weighed-room (fits-sized upTo up-short (fits-starts (c .before .before .before .before .before .before .before .before .before .before .before .before .before .before .before .before .before .before .before .before .before .args .depth) (c .before .before .before .before .before .before .before .before .before .before .before .before .before .before .before .before .before .before .before .before .before .pre .0))) (c .before .before .before .before .before .before .before .before .before .before .before .before .before .loop .inv .0) (c .before .before .before .before .before .before .before .before .before .before .before .before .loop-test .taken))
+add-result : tie.Need-add-result Inv-loop μ-loop
+add-result c = omega (arith, weighed-room (fits-sized upTo up-short (fits-starts (c .before .before .before .before .before .before .before .before .before .before .before .before .before .before .args .depth) (c .before .before .before .before .before .before .before .before .before .before .before .before .before .before .pre .0))) (c .before .before .before .before .before .before .loop .inv .0) (c .before .before .before .before .before .loop-test .taken), live-few (fits-sized upTo up-short (fits-starts (c .before .before .before .before .before .before .before .before .before .before .before .before .before .before .args .depth) (c .before .before .before .before .before .before .before .before .before .before .before .before .before .before .pre .0))) (c .before .before .before .before .before .before .loop .inv .0), c .before .before .before .before .before .before .before .before .before .before .before .before .before .before .pre .0 .few)
 
-loop-again : tie.Need-loop-again Inv-loop μ-loop
-loop-again c =
-    let a = c .before .before .before .before .before .before .before .before .before .before .before .before .before .before .before .before .before .before .before .before .before .args in
-    let at = c .before .before .before .before .before .before .before .before .before .before .before .before .before .loop in
-    let k = getD (at .seq) 0 0 in
-    let state = stateOf (at .tally) (at .widths) in
-    let same = slot-judged (priceBy (c .before .before .before .before .before .before .before .before .before .before .before .before .before .before .before .before .before .before .before .before .before .args .mode) (now (c .before .before .before .before .before .before .before .before .before .before .before .before .before .before .before .before .before .before .before .before .before .args .curve)) (c .before .before .before .before .before .before .before .before .before .before .before .before .before .before .before .before .before .before .before .before .before .args .n)) (now (a .chains)) state k (getD (at .rank) 0 0) _ (c .before .before .before .before .before .before .before .before .before .weigh .ensures .0) in
-    let e = same ∙ ap (λ (v : Verdict). judged state k (getD (at .widths) k 0 + 1) (decisionOf v)) (c .before .before .before .before .before .before .before .enum-told2 .given .1) in
-    (going-leaves (at .inv .0) (c .before .before .before .before .before .before .before .before .before .before .before .before .loop-test .taken) (few (fits-sized upTo up-short (fits-starts (c .before .before .before .before .before .before .before .before .before .before .before .before .before .before .before .before .before .before .before .before .before .args .depth) (c .before .before .before .before .before .before .before .before .before .before .before .before .before .before .before .before .before .before .before .before .before .pre .0))) (at .inv .0)) (c .before .before .before .before .settle .kept .0) (c .before .before .before .before .settle .kept .1 .0) e refl (c .before .before .before .before .settle .ensures), at .inv .1)
+same-length-4 : tie.Need-same-length-4 Inv-loop μ-loop
+same-length-4 c = search needs
+
+same-length-5 : tie.Need-same-length-5 Inv-loop μ-loop
+same-length-5 c = search needs
+
+same-length-6 : tie.Need-same-length-6 Inv-loop μ-loop
+same-length-6 c = omega (arith, widths-count (fits-sized upTo up-short (fits-starts (c .before .before .before .before .before .before .before .before .before .before .before .before .before .before .args .depth) (c .before .before .before .before .before .before .before .before .before .before .before .before .before .before .pre .0))) (c .before .before .before .before .before .before .loop .inv .0), ap length (c .before .before .before .before .before .before .before .before .before .before .before .before .before .before .pre .1 .1 .1 .0), length-replicate {A = ℕ} (c .before .before .before .before .before .before .before .before .before .before .before .before .before .before .args .n) 0)
+
+returns-2 : tie.Need-returns-2 Inv-loop μ-loop
+unfolding blockFrom
+returns-2 c =
+    let a = c .before .before .before .before .before .before .before .before .before .before .before .before .before .before .args in
+    let over = growing-over (priceBy (a .mode) (now (a .curve)) (a .n)) (now (a .chains)) (starts (a .depth) (now (a .lengths))) (a .n) (c .before .before .before .before .before .before .loop .inv .0) (c .before .before .before .before .before .loop-test .taken) in
+    rw (c .before .before .before .before .before .before .before .before .before .before .before .before .before .before .pre .0 .count) (sym (ap chosenBy (over (ap decisionOf (sym (c .enum-told2 .given .1)) ∙ c .before .before .weigh .ensures .0))))
 
 enum-known-verdict : tie.Need-enum-known-verdict Inv-loop μ-loop
 enum-known-verdict c = search needs
@@ -116,14 +122,14 @@ slot-at-requires : tie.Need-slot-at-requires Inv-loop μ-loop
 slot-at-requires c κs =
     (rw (sym (c .before .before .before .before .before .before .before .before .before .before .before .before .before .before .before .before .before .before .before .pre .0 .count)) at (c .before .before .before .before .before .before .before .before .before .before .before .before .before .before .before .before .before .before .before .pre .0), omega (arith, k-low (fits-sized upTo up-short (fits-starts (c .before .before .before .before .before .before .before .before .before .before .before .before .before .before .before .before .before .before .before .args .depth) (c .before .before .before .before .before .before .before .before .before .before .before .before .before .before .before .before .before .before .before .pre .0))) (c .before .before .before .before .before .before .before .before .before .before .before .loop .inv .0) (c .before .before .before .before .before .before .before .before .before .before .loop-test .taken), c .before .before .before .before .before .before .before .before .before .before .before .before .before .before .before .before .before .before .before .pre .0 .count))
 
-settle-requires-2 : tie.Need-settle-requires-2 Inv-loop μ-loop
-settle-requires-2 c κs = (omega (arith, c .before .before .before .before .before .before .before .before .before .before .before .before .before .before .loop .inv .0 .ranks-kept, c .before .before .before .before .before .before .before .before .before .before .before .before .before .before .loop .inv .0 .seqs-kept, live-few (fits-sized upTo up-short (fits-starts (c .before .before .before .before .before .before .before .before .before .before .before .before .before .before .before .before .before .before .before .before .before .before .args .depth) (c .before .before .before .before .before .before .before .before .before .before .before .before .before .before .before .before .before .before .before .before .before .before .pre .0))) (c .before .before .before .before .before .before .before .before .before .before .before .before .before .before .loop .inv .0), c .before .before .before .before .before .before .before .before .before .before .before .before .before .before .before .before .before .before .before .before .before .before .pre .1 .1 .0), c .before .before .before .before .before .before .before .before .before .before .before .before .before .before .loop .inv .0 .in-step .holds .order)
+settle-requires : tie.Need-settle-requires Inv-loop μ-loop
+settle-requires c κs = (omega (arith, c .before .before .before .before .before .before .before .before .before .before .before .before .before .before .loop .inv .0 .ranks-kept, c .before .before .before .before .before .before .before .before .before .before .before .before .before .before .loop .inv .0 .seqs-kept, live-few (fits-sized upTo up-short (fits-starts (c .before .before .before .before .before .before .before .before .before .before .before .before .before .before .before .before .before .before .before .before .before .before .args .depth) (c .before .before .before .before .before .before .before .before .before .before .before .before .before .before .before .before .before .before .before .before .before .before .pre .0))) (c .before .before .before .before .before .before .before .before .before .before .before .before .before .before .loop .inv .0), c .before .before .before .before .before .before .before .before .before .before .before .before .before .before .before .before .before .before .before .before .before .before .pre .1 .1 .0), c .before .before .before .before .before .before .before .before .before .before .before .before .before .before .loop .inv .0 .in-step .holds .order)
 
-loop-less-2 : tie.Need-loop-less-2 Inv-loop μ-loop
-loop-less-2 c = omega (arith, weighed-room (fits-sized upTo up-short (fits-starts (c .before .before .before .before .before .before .before .before .before .before .before .before .before .before .before .before .before .before .before .before .before .before .before .before .before .before .before .args .depth) (c .before .before .before .before .before .before .before .before .before .before .before .before .before .before .before .before .before .before .before .before .before .before .before .before .before .before .before .pre .0))) (c .before .before .before .before .before .before .before .before .before .before .before .before .before .before .before .before .before .before .before .loop .inv .0) (c .before .before .before .before .before .before .before .before .before .before .before .before .before .before .before .before .before .before .loop-test .taken))
+loop-less : tie.Need-loop-less Inv-loop μ-loop
+loop-less c = omega (arith, weighed-room (fits-sized upTo up-short (fits-starts (c .before .before .before .before .before .before .before .before .before .before .before .before .before .before .before .before .before .before .before .before .before .before .before .before .before .before .before .args .depth) (c .before .before .before .before .before .before .before .before .before .before .before .before .before .before .before .before .before .before .before .before .before .before .before .before .before .before .before .pre .0))) (c .before .before .before .before .before .before .before .before .before .before .before .before .before .before .before .before .before .before .before .loop .inv .0) (c .before .before .before .before .before .before .before .before .before .before .before .before .before .before .before .before .before .before .loop-test .taken))
 
-loop-again-2 : tie.Need-loop-again-2 Inv-loop μ-loop
-loop-again-2 c =
+loop-again : tie.Need-loop-again Inv-loop μ-loop
+loop-again c =
     let a = c .before .before .before .before .before .before .before .before .before .before .before .before .before .before .before .before .before .before .before .before .before .before .before .before .before .before .before .args in
     let at = c .before .before .before .before .before .before .before .before .before .before .before .before .before .before .before .before .before .before .before .loop in
     let k = getD (at .seq) 0 0 in
@@ -132,24 +138,24 @@ loop-again-2 c =
     let t = getD (at .widths) k 0 + 1 in
     let low = k-low (fits-sized upTo up-short (fits-starts (c .before .before .before .before .before .before .before .before .before .before .before .before .before .before .before .before .before .before .before .before .before .before .before .before .before .before .before .args .depth) (c .before .before .before .before .before .before .before .before .before .before .before .before .before .before .before .before .before .before .before .before .before .before .before .before .before .before .before .pre .0))) (at .inv .0) (c .before .before .before .before .before .before .before .before .before .before .before .before .before .before .before .before .before .before .loop-test .taken) in
     let e = same ∙ ap (λ (v : Verdict). judged state k t (decisionOf v)) (c .before .before .before .before .before .before .before .before .before .before .before .before .before .verdict .given .1) ∙ ap (λ (l : List ℕ). takes (stateOf (c .before .before .before .before .before .before .before .before .before .before .before .before .before .verdict .given .0 .0) l)) (sym (c .before .before .before .before .before .before .before .before .before .before .grow .ensures .1)) in (
-      going-takes (at .inv .0) (c .before .before .before .before .before .before .before .before .before .before .before .before .before .before .before .before .before .before .loop-test .taken) (few (fits-sized upTo up-short (fits-starts (c .before .before .before .before .before .before .before .before .before .before .before .before .before .before .before .before .before .before .before .before .before .before .before .before .before .before .before .args .depth) (c .before .before .before .before .before .before .before .before .before .before .before .before .before .before .before .before .before .before .before .before .before .before .before .before .before .before .before .pre .0))) (at .inv .0)) (c .before .before .before .before .settle2 .kept .0) (c .before .before .before .before .settle2 .kept .1 .0) t e (c .before .before .before .before .before .before .before .before .before .before .grow .ensures .1)
+      going-takes (at .inv .0) (c .before .before .before .before .before .before .before .before .before .before .before .before .before .before .before .before .before .before .loop-test .taken) (few (fits-sized upTo up-short (fits-starts (c .before .before .before .before .before .before .before .before .before .before .before .before .before .before .before .before .before .before .before .before .before .before .before .before .before .before .before .args .depth) (c .before .before .before .before .before .before .before .before .before .before .before .before .before .before .before .before .before .before .before .before .before .before .before .before .before .before .before .pre .0))) (at .inv .0)) (c .before .before .before .before .settle .kept .0) (c .before .before .before .before .settle .kept .1 .0) t e (c .before .before .before .before .before .before .before .before .before .before .grow .ensures .1)
           (growing (starts (a .depth) (now (a .lengths))) (now (a .chains)) k (getD (at .widths) k 0))
-          (c .before .before .before .before .before .before .before .slot-at .ensures ∙ head (a .depth) (now (a .lengths)) (now (a .chains)) k _ (getD (at .widths) k 0) (omega (arith, low, c .before .before .before .before .before .before .before .before .before .before .before .before .before .before .before .before .before .before .before .before .before .before .before .before .before .before .before .pre .0 .count)) (c .before .before .before .before .before .before .before .before .before .before .grow .ensures .0)) (c .before .before .before .before .settle2 .ensures),
+          (c .before .before .before .before .before .before .before .slot-at .ensures ∙ head (a .depth) (now (a .lengths)) (now (a .chains)) k _ (getD (at .widths) k 0) (omega (arith, low, c .before .before .before .before .before .before .before .before .before .before .before .before .before .before .before .before .before .before .before .before .before .before .before .before .before .before .before .pre .0 .count)) (c .before .before .before .before .before .before .before .before .before .before .grow .ensures .0)) (c .before .before .before .before .settle .ensures),
       take-rated (priceBy (c .before .before .before .before .before .before .before .before .before .before .before .before .before .before .before .before .before .before .before .before .before .before .before .before .before .before .before .args .mode) (now (c .before .before .before .before .before .before .before .before .before .before .before .before .before .before .before .before .before .before .before .before .before .before .before .before .before .before .before .args .curve)) (c .before .before .before .before .before .before .before .before .before .before .before .before .before .before .before .before .before .before .before .before .before .before .before .before .before .before .before .args .n)) _ _ (c .before .before .before .before .before .before .before .before .before .before .before .before .before .verdict .given .1) (c .before .before .before .before .before .before .before .before .before .before .before .before .before .before .before .weigh .ensures .1),
     )
 
-same-length-4 : tie.Need-same-length-4 Inv-loop μ-loop
-same-length-4 c = search needs
+same-length-7 : tie.Need-same-length-7 Inv-loop μ-loop
+same-length-7 c = search needs
 
-same-length-5 : tie.Need-same-length-5 Inv-loop μ-loop
-same-length-5 c = search needs
+same-length-8 : tie.Need-same-length-8 Inv-loop μ-loop
+same-length-8 c = search needs
 
-same-length-6 : tie.Need-same-length-6 Inv-loop μ-loop
-same-length-6 c = omega (arith, widths-count (fits-sized upTo up-short (fits-starts (c .before .before .before .before .before .before .before .before .before .args .depth) (c .before .before .before .before .before .before .before .before .before .pre .0))) (c .before .loop .inv .0), ap length (c .before .before .before .before .before .before .before .before .before .pre .1 .1 .1 .0), length-replicate {A = ℕ} (c .before .before .before .before .before .before .before .before .before .args .n) 0)
+same-length-9 : tie.Need-same-length-9 Inv-loop μ-loop
+same-length-9 c = omega (arith, widths-count (fits-sized upTo up-short (fits-starts (c .before .before .before .before .before .before .before .before .before .args .depth) (c .before .before .before .before .before .before .before .before .before .pre .0))) (c .before .loop .inv .0), ap length (c .before .before .before .before .before .before .before .before .before .pre .1 .1 .1 .0), length-replicate {A = ℕ} (c .before .before .before .before .before .before .before .before .before .args .n) 0)
 
-returns-2 : tie.Need-returns-2 Inv-loop μ-loop
+returns-3 : tie.Need-returns-3 Inv-loop μ-loop
 unfolding blockFrom
-returns-2 c =
+returns-3 c =
     let count = c .before .before .before .before .before .before .before .before .before .pre .0 .count in
     rw count (sym (ap chosenBy (going-done (c .before .loop .inv .0) (omega arith))))
 
@@ -169,16 +175,19 @@ weigh-all-spec =
     same-length-3
     returns
     enum-told-2
-    settle-requires
-    loop-less
-    loop-again
-    enum-known-verdict
-    grow-requires
-    slot-at-requires
-    settle-requires-2
-    loop-less-2
-    loop-again-2
+    sub-result
+    add-result
     same-length-4
     same-length-5
     same-length-6
-    returns-2)
+    returns-2
+    enum-known-verdict
+    grow-requires
+    slot-at-requires
+    settle-requires
+    loop-less
+    loop-again
+    same-length-7
+    same-length-8
+    same-length-9
+    returns-3)
