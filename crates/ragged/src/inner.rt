@@ -56,6 +56,42 @@ fn trim_within(
     )
 }
 
+// The gate for at most 16 sequences, which clearing more room than they need would hold up.
+fn trim_small(
+    chains: &[f64],
+    mode: PriceMode,
+    curve: &[f64],
+    spans: &[u8],
+    depth: u32,
+    kind: DrafterCost,
+    rates: Rates,
+    loaded: &[f64],
+    widths: &mut [u32],
+) -> usize
+    requires { ⌜ Fits (now chains) (now widths) (length (now widths)) × (length (now widths) ≤ 16) ⌝ }
+    requires { ⌜ AtMost depth (now widths) × (depth ≤ 64) ⌝ }
+    requires { ⌜ Priced mode (now curve) (now spans) ⌝ }
+    ensures { λ w. ⌜ record { widths = now (widths .exit); weighed = w } ≡ raggedWidths (passOf kind rates (now (loaded .entry))) (ruleOf mode (now (curve .entry)) (length (now (widths .entry)))) (now (chains .entry)) depth (now (widths .entry)) ⌝ }
+{
+    let mut rank = [0u64; 16];
+    let mut seq = [0u64; 16];
+    let mut passes = [0.0; 17];
+    trim_within(
+        chains,
+        mode,
+        curve,
+        spans,
+        depth,
+        kind,
+        rates,
+        loaded,
+        &mut rank,
+        &mut seq,
+        &mut passes,
+        widths,
+    )
+}
+
 // The gate for at most 64 sequences.
 fn trim_few(
     chains: &[f64],
@@ -145,7 +181,19 @@ fn trim(
     requires { ⌜ Priced mode (now curve) (now spans) ⌝ }
     ensures { λ w. ⌜ record { widths = now (widths .exit); weighed = w } ≡ raggedWidths (passOf kind rates (now (loaded .entry))) (ruleOf mode (now (curve .entry)) (length (now (widths .entry)))) (now (chains .entry)) depth (now (widths .entry)) ⌝ }
 {
-    if widths.len() <= 64 {
+    if widths.len() <= 16 {
+        trim_small(
+            chains,
+            mode,
+            curve,
+            spans,
+            depth,
+            kind,
+            rates,
+            loaded,
+            widths,
+        )
+    } else if widths.len() <= 64 {
         trim_few(
             chains,
             mode,

@@ -50,19 +50,19 @@ fn survivals(chains: &[f64], widths: &[u32]) -> f64
     sum
 }
 
-// The tokens to verify.
+// The tokens to verify. They are counted as whole numbers: so few are the same as floats, added one by one.
 fn tokens(widths: &[u32]) -> f64
-    requires { ⌜ AtMost 64 (now widths) ⌝ }
+    requires { ⌜ AtMost 64 (now widths) × (length (now widths) ≤ 1024) ⌝ }
     ensures { λ r. ⌜ r ≡ tokensFrom f0 (now (widths .entry)) ⌝ }
 {
-    let mut sum = 0.0;
+    let mut sum = 0u32;
     let mut k = 0usize;
     while k < widths.len() {
         let t = widths[k] + 1;
-        sum = sum + t as f64;
+        sum = sum + t;
         k += 1;
     }
-    sum
+    sum as f64
 }
 
 // One pass over m sequences.

@@ -13,7 +13,7 @@ survivals-requires : tie.Need-survivals-requires
 survivals-requires c κs = search needs
 
 tokens-requires : tie.Need-tokens-requires
-tokens-requires c κs = c .before .before .before .before .before .before .before .pre .0 .narrow
+tokens-requires c κs = (c .before .before .before .before .before .before .before .pre .0 .narrow, c .before .before .before .before .before .before .before .pre .0 .few)
 
 drafting-requires : tie.Need-drafting-requires
 drafting-requires c κs =
