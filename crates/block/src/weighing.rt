@@ -7,7 +7,7 @@ use verdict::inner::Verdict;
 use verdict::inner::starting;
 use verify_prices::PriceMode;
 use verify_prices::bridging::bridged_cost;
-use verify_prices::bridging::spans_of;
+use verify_prices::bridging::fill_spans;
 use verify_prices::inner::verify_cost;
 ghost use mathlib.Core.Path.{_≡_};
 ghost use Prim.Native.Nat.{_+_, _-_, _*_, _≤_, _<_, min};
@@ -319,7 +319,8 @@ fn verify_bridged(
     requires { ⌜ now widths ≡ replicate (length (now lengths)) 0 ⌝ }
     ensures { λ w. ⌜ record { widths = now (widths .exit); weighed = w } ≡ blockWidths (priceBy Bridged (now (curve .entry)) (length (now (lengths .entry)))) (now (chains .entry)) depth draft (now (lengths .entry)) ⌝ }
 {
-    let spans = spans_of(curve);
+    let mut spans = [0u8; 130];
+    fill_spans(curve, &mut spans);
     verify_block(
         chains,
         lengths,

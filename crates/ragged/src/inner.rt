@@ -6,7 +6,7 @@ use speculative::drafter::DrafterCost;
 use speculative::drafter::Rates;
 use trim::inner::trim_from;
 use verify_prices::PriceMode;
-use verify_prices::bridging::spans_of;
+use verify_prices::bridging::fill_spans;
 ghost use mathlib.Core.Path.{_≡_};
 ghost use Prim.Native.Nat.{_≤_, _<_};
 ghost use lib.ListN.{length};
@@ -264,7 +264,8 @@ fn trim_bridged(
     requires { ⌜ (1 < length (now curve)) × (length (now curve) ≤ 65) ⌝ }
     ensures { λ w. ⌜ record { widths = now (widths .exit); weighed = w } ≡ raggedWidths (passOf kind rates (now (loaded .entry))) (ruleOf Bridged (now (curve .entry)) (length (now (widths .entry)))) (now (chains .entry)) depth (now (widths .entry)) ⌝ }
 {
-    let spans = spans_of(curve);
+    let mut spans = [0u8; 130];
+    fill_spans(curve, &mut spans);
     trim(
         chains,
         PriceMode::Bridged,

@@ -49,15 +49,13 @@ fn fill_above(curve: &[f64], spans: &mut [u8])
     }
 }
 
-// The nearest measured depths to each depth of the curve: at or below it, and from place 65 on at or above it.
-pub fn spans_of(curve: &[f64]) -> [u8; 130]
-    requires { ⌜ (0 < length (now curve)) × (length (now curve) ≤ 65) ⌝ }
-    ensures { λ r. ⌜ Spanned (now (curve .entry)) r ⌝ }
+// Writes the nearest measured depths to each depth of the curve: at or below it, and from place 65 on at or above it.
+pub fn fill_spans(curve: &[f64], spans: &mut [u8])
+    requires { ⌜ (0 < length (now curve)) × (length (now curve) ≤ 65) × (length (now spans) ≡ 130) ⌝ }
+    ensures { λ _. ⌜ Spanned (now (curve .entry)) (now (spans .exit)) ⌝ }
 {
-    let mut spans = [0u8; 130];
-    fill_below(curve, &mut spans);
-    fill_above(curve, &mut spans);
-    spans
+    fill_below(curve, spans);
+    fill_above(curve, spans);
 }
 
 // Straight between the depths low and high, priced x and y; x where they are one, and +infinity where one of them is not measured.

@@ -1,38 +1,32 @@
--- `bridging::spans_of` meets its contract, by those of the functions that it calls. Assumes nothing.
-use Prim.Native.Nat.{ℕ}
+-- `bridging::fill_spans` meets its contract, by those of the functions that it calls. Assumes nothing.
 use mathlib.Core.Path.{_∙_}
 use native.Mathlib.Omega.{arith}
-use lib.ListN.{length-replicate}
 use borrow.Author.Needs.{needs}
-use Rattle.verify_prices.proofs.bridging.spans_of.Statement.{statement}
-use Rattle.verify_prices.proofs.bridging.spans_of.Tie as tie
-
-slice-aggregate-fill-below : tie.Need-slice-aggregate-fill-below
-slice-aggregate-fill-below c = search needs
+use Rattle.verify_prices.proofs.bridging.fill_spans.Statement.{statement}
+use Rattle.verify_prices.proofs.bridging.fill_spans.Tie as tie
 
 fill-below-requires : tie.Need-fill-below-requires
-fill-below-requires c κs = (c .before .before .pre .1, length-replicate {A = ℕ} 130 0)
-
-slice-aggregate-fill-above : tie.Need-slice-aggregate-fill-above
-slice-aggregate-fill-above c = search needs
+fill-below-requires c κs = (c .before .before .before .pre .1, c .before .before .before .pre .2)
 
 fill-above-requires : tie.Need-fill-above-requires
-fill-above-requires c κs = (c .before .before .before .before .before .pre .0, c .before .before .before .before .before .pre .1, c .before .before .fill-below .kept .1 .0 ∙ length-replicate {A = ℕ} 130 0)
+fill-above-requires c κs = (c .before .before .before .before .before .before .before .pre .0, c .before .before .before .before .before .before .before .pre .1, c .before .before .before .fill-below .kept .1 .0 ∙ c .before .before .before .before .before .before .before .pre .2)
+
+same-length : tie.Need-same-length
+same-length c = search needs
 
 returns : tie.Need-returns
 returns c =
     record {
-      room = c .before .fill-above .kept .1 .0 ∙ c .before .before .before .before .fill-below .kept .1 .0 ∙ length-replicate {A = ℕ} 130 0;
-      below = λ g l. c .before .fill-above .ensures .1 g (omega (arith, c .before .before .before .before .before .before .before .pre)) ∙ c .before .before .before .before .fill-below .ensures g l;
-      above = c .before .fill-above .ensures .0;
+      room = c .before .before .fill-above .kept .1 .0 ∙ c .before .before .before .before .before .before .fill-below .kept .1 .0 ∙ c .before .before .before .before .before .before .before .before .before .before .pre .2;
+      below = λ g l. c .before .before .fill-above .ensures .1 g (omega (arith, c .before .before .before .before .before .before .before .before .before .before .pre)) ∙ c .before .before .before .before .before .before .fill-below .ensures g l;
+      above = c .before .before .fill-above .ensures .0;
     }
 
-pub spans-of-spec : {M : Type 1} → statement M
-spans-of-spec =
+pub fill-spans-spec : {M : Type 1} → statement M
+fill-spans-spec =
     tie.close
     (tie.spec
-    slice-aggregate-fill-below
     fill-below-requires
-    slice-aggregate-fill-above
     fill-above-requires
+    same-length
     returns)
