@@ -56,7 +56,7 @@ fn trim_within(
     )
 }
 
-// The gate for at most 16 sequences, which clearing more room than they need would hold up.
+// The gate for at most 16 sequences, for which clearing the room of 64 would be a good part of the work.
 fn trim_small(
     chains: &[f64],
     mode: PriceMode,

@@ -50,7 +50,7 @@ fn survivals(chains: &[f64], widths: &[u32]) -> f64
     sum
 }
 
-// The tokens to verify. They are counted as whole numbers: so few are the same as floats, added one by one.
+// The tokens to verify. They are counted as whole numbers, which come to the same as floats that are added one by one.
 fn tokens(widths: &[u32]) -> f64
     requires { ⌜ AtMost 64 (now widths) × (length (now widths) ≤ 1024) ⌝ }
     ensures { λ r. ⌜ r ≡ tokensFrom f0 (now (widths .entry)) ⌝ }

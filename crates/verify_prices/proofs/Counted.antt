@@ -2,7 +2,7 @@
 use Prim.Native.Nat.{ℕ, _+_, _*_, _^_, _<_}
 use mathlib.Core.Path.{_≡_, ap, _∙_, sym}
 use mathlib.Core.Bool.{true, false}
-use native.Mathlib.Nat.{mul-one, mul-pos, add-mul, mul-right-comm, mul-assoc, mul-comm, zero-lt-suc}
+use native.Mathlib.Nat.{mul-one, mul-pos, add-mul, mul-right-comm, mul-assoc, zero-lt-suc}
 use native.Mathlib.Omega.{arith}
 use lib.Ieee.{Float, nan, inf, fin, binary64, up, down, round, sum as added, add, ofInt}
 use lib.Ieee.Fits.{down-pos}
