@@ -78,20 +78,20 @@ top-room {S = S} {lengths = lengths} depth fits sized at h =
     (omega (arith, low, fits .room), omega (arith, low, widths-count sized at), omega (arith, narrow, top-ok at h (few sized at)))
 
 -- ---- a slot that is passed over: the next price is not finite, whatever the slot, and so every slot that is left is passed over
-passes : Decision → Bool
-passes passed = true
-passes stopped = false
-passes (taken sums) = false
+isPassed : Decision → Bool
+isPassed passed = true
+isPassed stopped = false
+isPassed (taken sums) = false
 
 module _ (price : Float → Float) (a : Sums) where
   passed-all : (s s′ : Float) → passed ≡ slotAt price a s → slotAt price a s′ ≡ passed
-  unfolding takenIf passes
+  unfolding takenIf isPassed
   passed-all s s′ e = go (isFinite (nextSeconds price a)) (lt (rateNow price a) (rateOf (plus (a .expected) s) (nextSeconds price a))) _ _ e
     where
       go : (b x : Bool) (sums : Sums) (d : Decision) → passed ≡ cond b (cond x (taken sums) stopped) passed → cond b d passed ≡ passed
       go false x sums d h = refl
-      go true true sums d h = clash (ap passes (sym h))
-      go true false sums d h = clash (ap passes (sym h))
+      go true true sums d h = clash (ap isPassed (sym h))
+      go true false sums d h = clash (ap isPassed (sym h))
 
 pub growing-over :
     (price : Float → Float) (c : List Float) (ws : List ℕ) (n : ℕ) {start : Sums} {R₀ S₀ R S : List ℕ} {a : State} {live w : ℕ}

@@ -1,20 +1,21 @@
 -- The difference of a float and a whole number is above zero exactly where the float is above that number: nothing is lost to rounding. Assumes nothing.
 use mathlib.Core.Path.{_≡_, refl, sym, ap, _∙_, subst}
-use mathlib.Core.Bool.{Bool, true, false, _&&_}
-use Prim.Native.Nat.{ℕ, zero, suc, _+_, _-_, _*_, _%_, _^_, _≤_, _<_}
+use mathlib.Core.Bool.{Bool, true, false}
+use Prim.Native.Nat.{ℕ, zero, suc, _+_, _-_, _*_, _^_, _≤_, _<_}
 use native.Mathlib.Nat.{one-mul, mul-pos, mul-comm, zero-mul, add-mul, mul-le-mul-right, le-trans, le-of-eq}
 use native.Mathlib.Omega.{arith}
 use borrow.Author.Tests.{lt-ltb, le-ltb}
-use lib.Dec.{T, leb, ltb, eqb, leb→le, ltb→lt}
+use lib.Dec.{T, ltb→lt}
 use lib.IntN.{ℤ, negsuc}
 use lib.Pow.{pow-pos}
-use lib.Ieee.{Float, nan, inf, fin, binary64, prec, emax, low, up, down, round, neg, sum, add, sub, lt, le, fits, ofBits}
-use lib.Ieee.Fits.{and-l, and-r, down-pos, up-pos}
+use lib.Ieee.{Float, nan, inf, fin, binary64, up, down, round, neg, sum, add, sub, lt, le, fits, ofBits}
+use lib.Ieee.Fits.{down-pos, up-pos}
 use lib.Ieee.Exact.{HasValue}
 use lib.Ieee.Order.{round-mono}
 use lib.Ieee.Positive.{above, above-of-le}
 use Rattle.float.specs.Floats.{less, f0}
 use Rattle.float.proofs.Classes.{clash}
+use Rattle.verify_prices.proofs.OverOne.{fits-parts}
 use Rattle.gates_laws.proofs.Sizes.{Sized, round-sized}
 use Rattle.bridged_laws.proofs.Compared.{Unsigned, held-is}
 
@@ -48,21 +49,8 @@ some-rounds a b B h =
 
 -- a float has at most 1074 binary places
 shallow : (s : Bool) (m : ℕ) (e : ℤ) → T (fits binary64 (fin s m e)) → 0 < m * up e → down e ≤ 2 ^ 1074
-unfolding fits
 shallow s zero e h p = absurd (let w : ⊥ = omega (arith, zero-mul (up e)) in w)
-shallow s (suc m) e h p = leb→le (down e) (2 ^ 1074) (and-r (A && B) C (and-l (A && B && C) D h))
-  where
-    A : Bool
-    A = eqb (suc m % 2) 1
-
-    B : Bool
-    B = ltb (suc m) (2 ^ prec binary64)
-
-    C : Bool
-    C = leb (down e) (2 ^ low binary64)
-
-    D : Bool
-    D = ltb (suc m * up e) (2 ^ suc (emax binary64) * down e)
+shallow s (suc m) e h p = fits-parts binary64 s m e h .1
 
 pub some-way : (m : ℕ) (e : ℤ) (y : Float) (k : ℕ) → T (fits binary64 (fin false m e)) → HasValue y false k 1 → k * down e < m * up e → lt f0 (less (fin false m e) y) ≡ true
 unfolding sub neg add sum

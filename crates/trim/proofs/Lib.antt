@@ -1,4 +1,3 @@
 pub mod Adding
 pub mod Trimming
-mod NoneOf
 mod Rest

@@ -1,13 +1,15 @@
 -- The sequences that are left: each has a slot that can be weighed, and where none of these pays the gate is over. Assumes nothing.
 use Prim.Native.Nat.{ℕ, _+_, _-_, _≤_, _<_}
 use mathlib.Core.Path.{_≡_, refl, sym, ap, _∙_}
-use mathlib.Core.Bool.{Bool, true, false, cond}
+use mathlib.Core.Bool.{Bool, true, false, not, cond}
 use mathlib.Core.List.{List, []}
 use native.Mathlib.Omega.{arith}
+use borrow.Author.Tests.{not-true}
 use lib.ListN.{length, getD, take, List·getD-map, length-map}
 use lib.Seq.{getD-take, length-take-le}
 use lib.Ieee.{Float, lt}
 use Rattle.float.specs.Floats.{plus, less, f1}
+use Rattle.chains.proofs.Tested.{all-says}
 use Rattle.heap.specs.Greedy.{headOf, tailOf, frontier, leaves, greedy}
 use Rattle.heap.proofs.Frontiers.{in-frontier}
 use Rattle.heap.proofs.Steps.{on-head}
@@ -24,7 +26,6 @@ use Rattle.trim.specs.Ragged.{fullDraft, dropSlot}
 use Rattle.trim.specs.Kept.{Counts, listed, paysUnder, noneOf, Weighable}
 use Rattle.trim.proofs.Adding.{still-few}
 use Rattle.trim.proofs.Trimming.{Open, Trimming, drop-judged, count-here, count-some}
-use Rattle.trim.proofs.NoneOf.{none-says}
 
 -- a slot that does not pay is passed over
 pass-over :
@@ -107,6 +108,6 @@ module _ (passes c : List Float) (rule : Rule) (depth n : ℕ) (ws nk widths : L
           let here = count-here counts (getD S i 0) (place i l) (o .0) (o .1) in
           let not : paysUnder rule t c passes nk widths (getD S i 0) ≡ false =
           ap (paysUnder rule t c passes nk widths) (sym (getD-take live S i 0 l))
-          ∙ none-says (paysUnder rule t c passes nk widths) (take live S) e i (omega (arith, length-take-le live S long)) in
+          ∙ not-true _ (all-says (λ (k : ℕ). not (paysUnder rule t c passes nk widths k)) 0 (take live S) e i (omega (arith, length-take-le live S long))) in
           drop-judged (listed passes) rule c (record { sums = sumsOf t; widths = widths }) (getD S i 0) (getD R i 0) (getD nk (getD widths (getD S i 0) 0 - 1) 0) _ passed
           (pass-over rule t _ _ rated not) refl here

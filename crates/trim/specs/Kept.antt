@@ -1,12 +1,13 @@
 -- What the code of the ragged gate keeps beside its sums. Inner to the gate. Assumes nothing.
 use Prim.Native.Nat.{ℕ, _+_, _-_, _*_, _≤_, _<_}
 use mathlib.Core.Path.{_≡_}
-use mathlib.Core.Bool.{Bool, true, false, cond}
-use mathlib.Core.List.{List, [], _∷_}
+use mathlib.Core.Bool.{Bool, false, not, cond}
+use mathlib.Core.List.{List}
 use lib.ListN.{length, getD}
 use lib.Ieee.{Float, nan, lt}
 use Rattle.float.specs.Floats.{plus, less, f1}
 use Rattle.speculative.specs.Drafter.{stillDrafting}
+use Rattle.chains.specs.Tests.{allOf}
 use Rattle.verify_prices.specs.Rule.{Rule}
 use Rattle.verdict.specs.Decision.{rateOf}
 use Rattle.verdict.specs.declared.inner.Tally.{Tally}
@@ -37,9 +38,8 @@ abbrev pub paysUnder : Rule → Tally → List Float → List Float → List ℕ
 paysUnder rule t chains passes nk ws k = let vp = rule .price (less (t .tokens) f1) in paysAt (rule .shut vp) t vp chains passes nk ws k
 
 -- the test holds of none of them
-unfoldable pub noneOf : (ℕ → Bool) → List ℕ → Bool
-noneOf p [] = true
-noneOf p (k ∷ ks) = cond (p k) false (noneOf p ks)
+abbrev pub noneOf : (ℕ → Bool) → List ℕ → Bool
+noneOf p ks = allOf (λ k. not (p k)) ks
 
 -- each of the sequences has its chain, its width and a slot, and the passes that its slot is weighed by are there
 abbrev pub Weighable : List Float → List Float → List ℕ → List ℕ → List ℕ → Type 0

@@ -70,12 +70,11 @@ module _ (f : Format) (s : Bool) (m : ℕ) (small : suc m < 2 ^ prec f) where
           (subst (λ (x : ℕ). suc m * 2 ^ j < 2 ^ x) total below)
           (ap (λ (x : ℕ). x * 2 ^ l) (mul-one (suc m)) ∙ sym whole-part)
 
-own-exact : (f : Format) (s : Bool) (m : ℕ) (e : ℤ) → T (fits f (fin s m e)) → HasValue (round f s (m * up e) (down e)) s (m * up e) (down e)
+-- a float that fits: how many digits it has, how small their last place, and how large it is
+pub fits-parts : (f : Format) (s : Bool) (m : ℕ) (e : ℤ) → T (fits f (fin s (suc m) e)) → (suc m < 2 ^ prec f) × (down e ≤ 2 ^ low f) × (suc m * up e < 2 ^ suc (emax f) * down e)
 unfolding fits
-own-exact f s zero e h =
-    round-exact f s (zero * up e) (down e) 0 0 (down-pos e) (pow-pos (prec f)) (pow-pos (low f + suc (emax f)))
-    (ap (λ (x : ℕ). x * 2 ^ low f) (zero-mul (up e)) ∙ zero-mul (2 ^ low f) ∙ sym (zero-mul (down e)))
-own-exact f s (suc m) e h = go e (ltb→lt (suc m) (2 ^ prec f) (and-r A B (and-l (A && B) C (and-l (A && B && C) D h)))) (leb→le (down e) (2 ^ low f) (and-r (A && B) C (and-l (A && B && C) D h))) (ltb→lt (suc m * up e) (2 ^ suc (emax f) * down e) (and-r (A && B && C) D h))
+fits-parts f s m e h =
+    (ltb→lt (suc m) (2 ^ prec f) (and-r A B (and-l (A && B) C (and-l (A && B && C) D h))), leb→le (down e) (2 ^ low f) (and-r (A && B) C (and-l (A && B && C) D h)), ltb→lt (suc m * up e) (2 ^ suc (emax f) * down e) (and-r (A && B && C) D h))
   where
     A : Bool
     A = eqb (suc m % 2) 1
@@ -89,6 +88,12 @@ own-exact f s (suc m) e h = go e (ltb→lt (suc m) (2 ^ prec f) (and-r A B (and-
     D : Bool
     D = ltb (suc m * up e) (2 ^ suc (emax f) * down e)
 
+own-exact : (f : Format) (s : Bool) (m : ℕ) (e : ℤ) → T (fits f (fin s m e)) → HasValue (round f s (m * up e) (down e)) s (m * up e) (down e)
+own-exact f s zero e h =
+    round-exact f s (zero * up e) (down e) 0 0 (down-pos e) (pow-pos (prec f)) (pow-pos (low f + suc (emax f)))
+    (ap (λ (x : ℕ). x * 2 ^ low f) (zero-mul (up e)) ∙ zero-mul (2 ^ low f) ∙ sym (zero-mul (down e)))
+own-exact f s (suc m) e h = let p = fits-parts f s m e h in go e (p .0) (p .1) (p .2)
+  where
     go : (x : ℤ) → suc m < 2 ^ prec f → down x ≤ 2 ^ low f → suc m * up x < 2 ^ suc (emax f) * down x → HasValue (round f s (suc m * up x) (down x)) s (suc m * up x) (down x)
     go (pos k) small deep fine = up-exact f s m small k fine
     go (negsuc k) small deep fine = down-exact f s m small k deep fine

@@ -1,15 +1,15 @@
 -- `left::none_pays` meets its contract: the answer is that of the sequences from i on. Assumes nothing.
-use Prim.Native.Nat.{_-_, _≤_}
+use Prim.Native.Nat.{ℕ, _-_, _≤_}
 use mathlib.Core.Path.{_≡_, refl, sym, ap, _∙_}
-use mathlib.Core.Bool.{Bool, cond, true, false}
+use mathlib.Core.Bool.{Bool, cond, not, true, false}
 use native.Mathlib.Omega.{arith}
 use borrow.Author.Tests.{not-true, not-false}
 use lib.Ieee.{Float}
 use lib.ListN.{length, drop}
 use denote.Ref.{now}
+use Rattle.chains.proofs.Tested.{all-next, all-end}
 use Rattle.verify_prices.specs.Rule.{shutBy}
 use Rattle.trim.specs.Kept.{paysAt, noneOf}
-use Rattle.trim.proofs.NoneOf.{none-next, none-not, none-end}
 use borrow.Author.Needs.{needs}
 use Rattle.trim.proofs.left.none_pays.Statement.{statement}
 use Rattle.trim.proofs.left.none_pays.Tie as tie
@@ -64,26 +64,23 @@ returns-2 c =
     let answer : Bool → Float → Bool = λ z v. noneOf (paysAt z (a .tally) v (now (a .chains)) (now (a .passes)) (now (a .nk)) (now (a .widths))) (now (a .rest)) in
     let test = paysAt (c .before .before .before .before .before .is-shut .result) (a .tally) (c .before .before .before .before .before .before .verify-price .result) (now (a .chains)) (now (a .passes)) (now (a .nk)) (now (a .widths)) in
     looked (a .look) (shutBy (a .mode)) answer (c .before .before .before .before .before .is-shut .result) (c .before .before .before .before .before .before .verify-price .result) _ _ (not-false _ (c .before .before .before .before .before .before .before .before .if1 .left))
-    (c .before .before .before .before .loop .inv .1 ∙ none-not test (now (a .rest)) (c .before .before .before .before .loop .i) (c .before .before .before .loop-test .taken) (sym (c .before .slot-pays .ensures) ∙ c .if2 .taken)) (c .before .before .before .before .before .is-shut .ensures) (c .before .before .before .before .before .before .verify-price .ensures)
+    (c .before .before .before .before .loop .inv .1 ∙ all-next (λ (k : ℕ). not (test k)) 0 false (now (a .rest)) (c .before .before .before .before .loop .i) (c .before .before .before .loop-test .taken) (ap not (sym (c .before .slot-pays .ensures) ∙ c .if2 .taken))) (c .before .before .before .before .before .is-shut .ensures) (c .before .before .before .before .before .before .verify-price .ensures)
 
 loop-less : tie.Need-loop-less Inv-loop μ-loop
 loop-less c = search needs
 
 loop-again : tie.Need-loop-again Inv-loop μ-loop
 loop-again c =
-    let a = c .before .before .before .before .before .before .before .before .before .before .before .before .before .before .before .before .args in (
-      omega arith,
-      c .before .before .before .before .loop .inv .1
-          ∙ none-next (paysAt (c .before .before .before .before .before .is-shut .result) (a .tally) (c .before .before .before .before .before .before .verify-price .result) (now (a .chains)) (now (a .passes)) (now (a .nk)) (now (a .widths))) (now (a .rest)) (c .before .before .before .before .loop .i) (c .before .before .before .loop-test .taken)
-          (sym (c .before .slot-pays .ensures) ∙ c .if2 .left),
-    )
+    let a = c .before .before .before .before .before .before .before .before .before .before .before .before .before .before .before .before .args in
+    let test = paysAt (c .before .before .before .before .before .is-shut .result) (a .tally) (c .before .before .before .before .before .before .verify-price .result) (now (a .chains)) (now (a .passes)) (now (a .nk)) (now (a .widths)) in
+    (omega arith, c .before .before .before .before .loop .inv .1 ∙ all-next (λ (k : ℕ). not (test k)) 0 true (now (a .rest)) (c .before .before .before .before .loop .i) (c .before .before .before .loop-test .taken) (ap not (sym (c .before .slot-pays .ensures) ∙ c .if2 .left)))
 
 returns-3 : tie.Need-returns-3 Inv-loop μ-loop
 returns-3 c =
     let a = c .before .before .before .before .before .before .before .before .before .before .before .before .before .args in
     let answer : Bool → Float → Bool = λ z v. noneOf (paysAt z (a .tally) v (now (a .chains)) (now (a .passes)) (now (a .nk)) (now (a .widths))) (now (a .rest)) in
     let test = paysAt (c .before .before .is-shut .result) (a .tally) (c .before .before .before .verify-price .result) (now (a .chains)) (now (a .passes)) (now (a .nk)) (now (a .widths)) in
-    looked (a .look) (shutBy (a .mode)) answer (c .before .before .is-shut .result) (c .before .before .before .verify-price .result) _ _ (not-false _ (c .before .before .before .before .before .if1 .left)) (c .before .loop .inv .1 ∙ none-end test (now (a .rest)) (c .before .loop .i) (c .loop-test .left)) (c .before .before .is-shut .ensures) (c .before .before .before .verify-price .ensures)
+    looked (a .look) (shutBy (a .mode)) answer (c .before .before .is-shut .result) (c .before .before .before .verify-price .result) _ _ (not-false _ (c .before .before .before .before .before .if1 .left)) (c .before .loop .inv .1 ∙ all-end (λ (k : ℕ). not (test k)) 0 (now (a .rest)) (c .before .loop .i) (c .loop-test .left)) (c .before .before .is-shut .ensures) (c .before .before .before .verify-price .ensures)
 
 pub none-pays-spec : {M : Type 1} → statement M
 none-pays-spec =
