@@ -5,7 +5,7 @@ use mathlib.Core.List.{List, [], _∷_}
 use Prim.Native.Nat.{ℕ, zero, suc, _+_, _-_, _≤_, _<_, min, max}
 use native.Mathlib.Nat.{not-suc-le-zero, le-of-suc-le-suc}
 use native.Mathlib.Omega.{arith}
-use borrow.Author.Tests.{le-leb, lt-leb, lt-ltb, eq-eqb, ltb-true, ltb-false}
+use borrow.Author.Tests.{ltb-true, ltb-false}
 use lib.Dec.{ltb, eqb}
 use lib.ListN.{length, getD}
 use lib.Ieee.{Float, nan}
@@ -13,9 +13,10 @@ use Rattle.float.specs.Floats.{isFinite}
 use Rattle.float.proofs.Classes.{clash}
 use Rattle.switch_settings.specs.declared.MaxStep.{MaxStep}
 use Rattle.switch_settings.specs.declared.MaxStep.the-variants.{Unlimited, AtMost}
-use Rattle.width_walk.specs.Walk.{firstAtLeast, snapIndex, targetIndex, walkIndex, walkCandidates}
+use Rattle.width_walk.specs.Walk.{firstAtLeast, snapIndex, targetIndex, walkIndex, walkCandidates, Rising}
 use Rattle.switching.specs.Deciding.{finiteFrom, candidatesOf}
 use Rattle.width_walk.proofs.Walking.{walk-within}
+use Rattle.width_walk.proofs.Found.{rising-low, reaches}
 
 -- ---- the walk arrives at a candidate, and never past the target's index
 pub record Arrives (l : List ℕ) (width target w : ℕ) : Type 0 where
@@ -60,38 +61,6 @@ arrives (c ∷ cs) width target step h =
     let s = snap-within (c ∷ cs) width h in
     let b = between at to step in
     record { index = walkIndex at to step; within = walk-within at to (length (c ∷ cs)) step s (target-within (c ∷ cs) target at s); is = refl; low = b .0; high = b .1 }
-
--- ---- rising candidates
-abbrev pub Rising : ℕ → List ℕ → Type 0
-Rising low [] = Unit
-Rising low (c ∷ cs) = (low ≤ c) × Rising (suc c) cs
-
-rising-low : (low : ℕ) (l : List ℕ) (i : ℕ) → Rising low l → i < length l → low ≤ getD l i 0
-rising-low low [] i r h = absurd (not-suc-le-zero h)
-rising-low low (c ∷ cs) zero r h = r .0
-rising-low low (c ∷ cs) (suc i) r h = let k = rising-low (suc c) cs i (r .1) (le-of-suc-le-suc h) in let m = r .0 in omega arith
-
--- a candidate is found where it stands
-pub found-there : (low : ℕ) (l : List ℕ) (i : ℕ) → Rising low l → i < length l → firstAtLeast l (getD l i 0) ≡ i
-unfolding firstAtLeast
-found-there low [] i r h = absurd (not-suc-le-zero h)
-found-there low (c ∷ cs) zero r h = rw (le-leb c c (omega arith))
-found-there low (c ∷ cs) (suc i) r h =
-    let k : suc c ≤ getD cs i 0 = rising-low (suc c) cs i (r .1) (le-of-suc-le-suc h) in
-    rw (lt-leb (getD cs i 0) c k) (ap suc (found-there (suc c) cs i (r .1) (le-of-suc-le-suc h)))
-
--- without a limit the walk arrives at a target that is a candidate
-pub reaches : (low : ℕ) (l : List ℕ) (width i : ℕ) → Rising low l → i < length l → walkCandidates l width (getD l i 0) Unlimited ≡ getD l i 0
-reaches low [] width i r h = absurd (not-suc-le-zero h)
-reaches low (c ∷ cs) width i r h =
-    let f : firstAtLeast (c ∷ cs) (getD (c ∷ cs) i 0) ≡ i = found-there low (c ∷ cs) i r h in
-    ap (λ (j : ℕ). getD (c ∷ cs) j 0) (to-it f)
-  where
-    at : ℕ
-    at = snapIndex (c ∷ cs) width
-
-    to-it : firstAtLeast (c ∷ cs) (getD (c ∷ cs) i 0) ≡ i → targetIndex (c ∷ cs) (getD (c ∷ cs) i 0) at ≡ i
-    to-it f = simp (f, lt-ltb i (length (c ∷ cs)) h, eq-eqb (getD (c ∷ cs) i 0) (getD (c ∷ cs) i 0) refl)
 
 -- ---- the candidates of a curve
 weaker : (low : ℕ) (l : List ℕ) → Rising (suc low) l → Rising low l

@@ -1,5 +1,5 @@
 -- The walk through the candidate widths. Assumes nothing.
-use Prim.Native.Nat.{ℕ, suc, _+_, _-_, min, max}
+use Prim.Native.Nat.{ℕ, suc, _+_, _-_, _≤_, min, max}
 use mathlib.Core.Bool.{cond, _&&_}
 use mathlib.Core.List.{List, [], _∷_}
 use lib.Dec.{leb, ltb, eqb}
@@ -34,3 +34,8 @@ walkCandidates (c ∷ cs) width target step =
     let candidates = c ∷ cs in
     let at = snapIndex candidates width in
     getD candidates (walkIndex at (targetIndex candidates target at) step) 0
+
+-- candidates that rise, from `low` on
+abbrev pub Rising : ℕ → List ℕ → Type 0
+Rising low [] = Unit
+Rising low (c ∷ cs) = (low ≤ c) × Rising (suc c) cs

@@ -1,4 +1,4 @@
--- `walk::walk_candidates` meets its contract: the index that the walk gives lies within the list. Assumes nothing.
+-- `walk_candidates` meets its contract: the index that the walk gives lies within the list. Assumes nothing.
 use Prim.Native.Nat.{_<_}
 use native.Mathlib.Omega.{arith}
 use lib.ListN.{length}

@@ -1,10 +1,10 @@
--- `walk::target_index` meets its contract. Assumes nothing.
+-- `inner::target_index` meets its contract. Assumes nothing.
 use native.Mathlib.Omega.{arith}
 use denote.Ref.{now}
 use Rattle.width_walk.proofs.Walking.{hit, miss, past}
 use borrow.Author.Needs.{needs}
-use Rattle.width_walk.proofs.target_index.Statement.{statement}
-use Rattle.width_walk.proofs.target_index.Tie as tie
+use Rattle.width_walk.proofs.inner.target_index.Statement.{statement}
+use Rattle.width_walk.proofs.inner.target_index.Tie as tie
 
 first-at-least-requires : tie.Need-first-at-least-requires
 first-at-least-requires c κs = search needs

@@ -1,10 +1,10 @@
--- `walk::snap_index` meets its contract. Assumes nothing.
+-- `inner::snap_index` meets its contract. Assumes nothing.
 use native.Mathlib.Omega.{arith}
 use denote.Ref.{now}
 use Rattle.width_walk.proofs.Walking.{snapped, snapped-last}
 use borrow.Author.Needs.{needs}
-use Rattle.width_walk.proofs.snap_index.Statement.{statement}
-use Rattle.width_walk.proofs.snap_index.Tie as tie
+use Rattle.width_walk.proofs.inner.snap_index.Statement.{statement}
+use Rattle.width_walk.proofs.inner.snap_index.Tie as tie
 
 first-at-least-requires : tie.Need-first-at-least-requires
 first-at-least-requires c κs = search needs

@@ -1,8 +1,8 @@
--- `walk::walk_index` meets its contract: each way out is a law of the walk. Assumes nothing.
+-- `inner::walk_index` meets its contract: each way out is a law of the walk. Assumes nothing.
 use Rattle.width_walk.proofs.Walking.{up-some, up-all, down-some, down-all}
 use borrow.Author.Needs.{needs}
-use Rattle.width_walk.proofs.walk_index.Statement.{statement}
-use Rattle.width_walk.proofs.walk_index.Tie as tie
+use Rattle.width_walk.proofs.inner.walk_index.Statement.{statement}
+use Rattle.width_walk.proofs.inner.walk_index.Tie as tie
 
 enum-told : tie.Need-enum-told
 enum-told c = search needs

@@ -1,4 +1,4 @@
--- `walk::first_at_least` meets its contract: what was passed and the answer for what is left make the answer. Assumes nothing.
+-- `inner::first_at_least` meets its contract: what was passed and the answer for what is left make the answer. Assumes nothing.
 use mathlib.Core.Path.{_≡_}
 use Prim.Native.Nat.{suc, _+_, _≤_, _-_}
 use native.Mathlib.Nat.{zero-add}
@@ -8,8 +8,8 @@ use denote.Ref.{now}
 use Rattle.width_walk.specs.Walk.{firstAtLeast}
 use Rattle.width_walk.proofs.Walking.{found, onward, nothing}
 use borrow.Author.Needs.{needs}
-use Rattle.width_walk.proofs.first_at_least.Statement.{statement}
-use Rattle.width_walk.proofs.first_at_least.Tie as tie
+use Rattle.width_walk.proofs.inner.first_at_least.Statement.{statement}
+use Rattle.width_walk.proofs.inner.first_at_least.Tie as tie
 
 abbrev Inv-loop : tie.InvT-loop
 Inv-loop candidates x i₀ i = (i ≤ length candidates) × (i + firstAtLeast (drop i candidates) x ≡ firstAtLeast candidates x)
