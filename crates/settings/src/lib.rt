@@ -1,10 +1,12 @@
 // What a planner is set to: how deep it may draft, how its drafts are accepted, how it decides, and what drafting and switching cost.
+pub mod inner;
+
 use acceptance::AcceptanceModel;
 use speculative::drafter::DrafterCost;
 use switch_settings::SwitchConstraints;
 use verify_prices::PriceMode;
 ghost use mathlib.Core.Path.{_≡_};
-ghost use Rattle.settings.specs.Settings.{settingsRefusal, gammaIn, cappedBy};
+ghost use Rattle.settings.specs.Settings.{settingsRefusal, gammaIn};
 
 // How the depth of a batch's drafts is decided.
 pub enum Policy {
@@ -56,19 +58,8 @@ pub fn gamma_in(settings: Settings, depth: u32) -> u32
     let policy = settings.policy;
     match policy {
         Policy::Fixed => gamma,
-        Policy::GoodputBudget => capped(model, gamma, depth),
-        Policy::GatedBudget => capped(model, gamma, depth),
-        Policy::GatedAggregate => capped(model, gamma, depth),
-    }
-}
-
-// gamma, capped at the depth of a trace's bank.
-fn capped(model: AcceptanceModel, gamma: u32, depth: u32) -> u32
-    ensures { λ r. ⌜ r ≡ cappedBy model gamma depth ⌝ }
-{
-    match model {
-        AcceptanceModel::Constant(_) => gamma,
-        AcceptanceModel::PerPosition => gamma,
-        AcceptanceModel::Trace => { if depth < gamma { depth } else { gamma } }
+        Policy::GoodputBudget => inner::capped(model, gamma, depth),
+        Policy::GatedBudget => inner::capped(model, gamma, depth),
+        Policy::GatedAggregate => inner::capped(model, gamma, depth),
     }
 }

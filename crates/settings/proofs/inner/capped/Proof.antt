@@ -5,8 +5,8 @@ use native.Mathlib.Omega.{arith}
 use Rattle.acceptance.specs.declared.AcceptanceModel.{AcceptanceModel}
 use Rattle.settings.specs.Settings.{cappedBy}
 use borrow.Author.Needs.{needs}
-use Rattle.settings.proofs.capped.Statement.{statement}
-use Rattle.settings.proofs.capped.Tie as tie
+use Rattle.settings.proofs.inner.capped.Statement.{statement}
+use Rattle.settings.proofs.inner.capped.Tie as tie
 
 enum-told : tie.Need-enum-told
 enum-told c = search needs
