@@ -26,7 +26,7 @@ fn own_rooms(n: usize, l: Lengths) -> bool
 }
 
 // Whether the roofline has gamma + 1 entries, or each column of the table its rows.
-fn price_rooms(source: Source, gamma: usize, rows: usize, l: Lengths) -> bool
+pub fn price_rooms(source: Source, gamma: usize, rows: usize, l: Lengths) -> bool
     ensures { λ r. ⌜ r ≡ priceRooms source gamma rows l ⌝ }
 {
     match source {
