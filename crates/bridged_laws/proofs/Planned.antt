@@ -52,7 +52,7 @@ use Rattle.bridged_laws.proofs.NeverPasses.{never-passes-judged}
 use Rattle.bridged_laws.proofs.Chosen.{chosen-measured, measured-on}
 use Rattle.bridged_laws.proofs.Entered.{test-passed}
 
-rates-delta : (rates : Rates) → ratesRefusal rates ≡ 0 → inSignedRange (neg billion) billion (rates .«kv_delta») ≡ true
+pub rates-delta : (rates : Rates) → ratesRefusal rates ≡ 0 → inSignedRange (neg billion) billion (rates .«kv_delta») ≡ true
 unfolding ratesRefusal
 rates-delta rates e = both (isStreamed rates) (inSignedRange (neg billion) billion (rates .«kv_delta»)) (test-passed (isStreamed rates && inSignedRange (neg billion) billion (rates .«kv_delta»)) 15 (omega arith) e) .1
 

@@ -71,6 +71,7 @@ sizes-gamma model gamma n depth rounds source rows e =
 pub record Passed (s : Settings) (a : Ask) (l : Lent) (cs : List Change) : Type 0 where
   pub gamma-most : s .gamma ≤ 64
   pub sequences-most : a .sequences ≤ 1024
+  pub costs-pass : costsValued s a l ≡ true
   pub values-pass : policyValued (s .policy) (s .model) (s .switch) (gammaIn s (a .depth)) (l .bankCurve) (pastFrom (recordOf (workerIn s a l) cs)) ≡ true
   pub worker-passes : cond (isPut s a l (s .policy)) (workerRule (workerIn s a l) cs) 0 ≡ 0
   pub step-passes : stepRule (secondOf (a .end)) cs ≡ 0
@@ -84,9 +85,9 @@ module _ (s : Settings) (a : Ask) (l : Lent) (drafts commits : ℕ) (cs : List C
   unless-empty true answer e = absurd (not-both false e refl)
   unless-empty false answer e = (refl, e)
 
-  values-hold : (past : Past) → valuesRefusal s a l past ≡ 0 → policyValued (s .policy) (s .model) (s .switch) (gammaIn s (a .depth)) (l .bankCurve) past ≡ true
+  values-hold : (past : Past) → valuesRefusal s a l past ≡ 0 → (costsValued s a l ≡ true) × (policyValued (s .policy) (s .model) (s .switch) (gammaIn s (a .depth)) (l .bankCurve) past ≡ true)
   unfolding valuesRefusal
-  values-hold past e = right-holds (costsValued s a l) _ (test-holds _ 14 e)
+  values-hold past e = let h = test-holds _ 14 e in (left-holds (costsValued s a l) _ h, right-holds (costsValued s a l) _ h)
 
   -- nothing is refused
   pub accepted : isPlan (answerOn s a l drafts commits cs) ≡ true → refusalOn s a l drafts commits cs ≡ 0
@@ -101,15 +102,17 @@ module _ (s : Settings) (a : Ask) (l : Lent) (drafts commits : ℕ) (cs : List C
   passed e =
       let sizes : ℕ = sizesRefusal (s .model) (s .gamma) (a .sequences) (a .depth) (a .rounds) (a .source) (a .rows) in
       let rooms : ℕ = roomsRefusal s a (lengthsOf l room drafts commits) in
-      let values : ℕ = valuesRefusal s a l (pastFrom (recordOf (workerIn s a l) cs)) in
+      let refused : ℕ = valuesRefusal s a l (pastFrom (recordOf (workerIn s a l) cs)) in
       let draws : ℕ = drawnRefusal s a l (drawn s a l .answer) in
       let worker : ℕ = cond (isPut s a l (s .policy)) (workerRule (workerIn s a l) cs) 0 in
-      let none = all-none sizes rooms values draws (signalsRefusal s a l) worker (stepRule (secondOf (a .end)) cs) e in
+      let none = all-none sizes rooms refused draws (signalsRefusal s a l) worker (stepRule (secondOf (a .end)) cs) e in
       let most = sizes-gamma (s .model) (s .gamma) (a .sequences) (a .depth) (a .rounds) (a .source) (a .rows) (none .0) in
+      let values = values-hold (pastFrom (recordOf (workerIn s a l) cs)) (none .1) in
       record {
         gamma-most = most .0;
         sequences-most = most .1;
-        values-pass = values-hold (pastFrom (recordOf (workerIn s a l) cs)) (none .1);
+        costs-pass = values .0;
+        values-pass = values .1;
         worker-passes = none .2;
         step-passes = none .3;
       }

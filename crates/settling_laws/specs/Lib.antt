@@ -1,0 +1,3 @@
+pub mod Record
+pub mod Rounds
+pub mod Asked
