@@ -107,6 +107,17 @@ typedef struct {
     uint32_t depth;           /* of a bank; 0 for a table */
 } latchmeander_read;
 
+/* What becomes of a width; 0 where it is refused. */
+enum { LATCHMEANDER_WITHIN = 1, LATCHMEANDER_AT_ONCE, LATCHMEANDER_NO_STEP, LATCHMEANDER_NO_CANDIDATE };
+
+typedef struct {
+    uint64_t refusal;
+    uint64_t settles;         /* which of these */
+    uint64_t rounds;          /* WITHIN: the width is the target after at most so many rounds, */
+    uint64_t walks;           /* by so many walks */
+    uint64_t width;           /* NO_STEP, NO_CANDIDATE: where it stays */
+} latchmeander_settling;
+
 /* ---- The storage: lent whole to each call, refused 16 where it has fewer words than latchmeander_room() answers ---- */
 
 /* How many words a planner takes. Refuses nothing. */
@@ -153,6 +164,19 @@ latchmeander_planned latchmeander_plan(latchmeander_settings settings, latchmean
                                        const double *draws, size_t draws_len, const uint32_t *indices, size_t indices_len,
                                        uint64_t *storage, size_t storage_len, uint32_t *drafts, size_t drafts_len,
                                        uint32_t *commits, size_t commits_len);
+
+/* How long until the `width` of a worker that is held is `target`, while every GatedAggregate plan for it has these settings, prices at the
+ * same depths and `target` as its best depth. A round is such a plan that is accepted and has a sequence; other calls may stand between,
+ * but no withdrawal.
+ * WITHIN: the width is the target after at most `rounds` rounds, and stays. The width after each walk is written to the front of `widths`,
+ * which has room for 64; the rest of it stays. AT_ONCE: the switching is free, and each plan takes its best depth. NO_STEP: max_step is 0.
+ * NO_CANDIDATE: the target has no price. With these two the first walk brings the width to `width`, where it stays.
+ * Of the settings gamma, the model and the switching are used, and every number of a case is judged; of the ask the source, the rows and,
+ * for TRACE, the depth. Refuses the first of 12, 11, 16, 15. */
+latchmeander_settling latchmeander_settles(latchmeander_settings settings, latchmeander_ask ask, const double *roofline, size_t roofline_len,
+                                           const uint32_t *depths, size_t depths_len, const uint32_t *batches, size_t batches_len,
+                                           const double *seconds, size_t seconds_len, uint32_t width, uint32_t target,
+                                           uint32_t *widths, size_t widths_len);
 
 /* The seconds that the drafter of the settings takes, where each sequence has its own width and the verify costs `verify_c`. Of the settings
  * the drafter alone is used, and every number of a case is judged. Refuses the first of 12, 11, 16, 15. */

@@ -1,6 +1,6 @@
 /* A day of two workers through the library, as a host in C plans it: texts that are read, plans by each policy, refusals, a collection,
- * withdrawals, and the day's series. `examples/host/run` builds it, runs it and holds what it prints against day.out.
- * After every refusal all that was lent is compared, byte by byte, with what it was before the call. */
+ * withdrawals, the day's series, and how long a width takes to settle. `examples/host/run` builds it, runs it and holds what it prints
+ * against day.out. After every refusal all that was lent is compared, byte by byte, with what it was before the call. */
 #include "latchmeander.h"
 
 #include <stdio.h>
@@ -8,6 +8,7 @@
 
 #define WORDS 18308 /* what latchmeander_room() answers */
 #define MOST 4      /* sequences in a plan of this day */
+#define WALKS 64    /* what latchmeander_settles wants room for */
 
 /* All that is lent to be written. The host owns it; the planner is `words`. */
 typedef struct {
@@ -17,6 +18,7 @@ typedef struct {
     uint32_t depths[8], batches[8];
     double seconds[8];
     uint32_t drafts[MOST], commits[MOST];
+    uint32_t widths[WALKS];
 } lent;
 
 static lent h, before;
@@ -204,6 +206,43 @@ static void plan_evening(latchmeander_settings gated) {
     show_series();
 }
 
+/* How long until a width settles by the table's prices; 0 rounds where it does not, or is refused. */
+static uint64_t settles(latchmeander_settings settings, uint32_t width, uint32_t target, size_t room) {
+    latchmeander_ask ask = {.source = LATCHMEANDER_TABLE, .rows = table.rows, .depth = bank.depth};
+    keep();
+    latchmeander_settling s =
+        latchmeander_settles(settings, ask, no_floats, 0, h.depths, 8, h.batches, 8, h.seconds, 8, width, target, h.widths, room);
+    printf("from %u to %u: ", width, target);
+    if (s.refusal) {
+        refused(s.refusal);
+        return 0;
+    }
+    printf("settles %lu, rounds %lu, walks %lu, width %lu", (unsigned long)s.settles, (unsigned long)s.rounds, (unsigned long)s.walks,
+           (unsigned long)s.width);
+    for (uint64_t i = 0; i < s.walks; i++) printf("%s %u", i ? "" : ", through", h.widths[i]);
+    printf("\n");
+    faults += s.settles == LATCHMEANDER_WITHIN && h.widths[s.walks - 1] != target;
+    return s.rounds;
+}
+
+/* A worker at width 4 whose plans want depth 1 from now on: how long that takes, and then so many plans. Then what never settles, what is free
+ * and what is refused. */
+static void settle(latchmeander_settings gated) {
+    latchmeander_settings other = gated;
+    plan_pair(gated, 3, 79200.0, 0, 3);
+    uint64_t rounds = settles(gated, 4, 1, WALKS);
+    for (uint64_t i = 0; i < rounds; i++) plan_pair(gated, 3, 79201.0 + (double)i, 2, 2);
+    show_worker(3);
+    faults += latchmeander_worker(h.words, WORDS, 7, 3).width != 1;
+    settles(gated, 4, 3, WALKS);
+    other.max_step = 0;
+    settles(other, 3, 0, WALKS);
+    other.cooldown_rounds = 1, other.steps = LATCHMEANDER_UNLIMITED, other.cost_ms = 0.0;
+    settles(other, 4, 0, WALKS);
+    settles(gated, 4, 0, WALKS - 1);
+    settles(gated, 65, 0, WALKS);
+}
+
 /* What each kind of drafter takes for widths 4 and 2, and a call that is refused. */
 static void time_drafters(latchmeander_settings settings) {
     static const uint32_t widths[2] = {4, 2};
@@ -231,6 +270,7 @@ int main(void) {
     plan_morning(gated);
     plan_noon(gated);
     plan_evening(gated);
+    settle(gated);
     time_drafters(gated);
     return faults != 0;
 }

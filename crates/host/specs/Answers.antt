@@ -19,11 +19,14 @@ use Rattle.bank_judge.specs.declared.Answer.{Answer as Bank}
 use Rattle.bank_judge.specs.declared.Answer.the-variants.{Bank as Rounds, Refused as NoBank}
 use Rattle.measured.specs.declared.Answer.{Answer as Table}
 use Rattle.measured.specs.declared.Answer.the-variants.{Table as Rows, Refused as NoTable}
+use Rattle.width_way.specs.declared.Settling.{Settling}
+use Rattle.width_way.specs.declared.Settling.the-variants.{Within, NoStep, NoCandidate, AtOnce, Refused as Unsettled}
 use Rattle.host.specs.declared.answers.HostPlan.{HostPlan}
 use Rattle.host.specs.declared.answers.HostCount.{HostCount}
 use Rattle.host.specs.declared.answers.HostFigure.{HostFigure}
 use Rattle.host.specs.declared.answers.HostWorker.{HostWorker}
 use Rattle.host.specs.declared.answers.HostRead.{HostRead}
+use Rattle.host.specs.declared.answers.HostSettling.{HostSettling}
 
 unfoldable pub answerOf : Answer → ℕ
 answerOf Done = 0
@@ -65,3 +68,11 @@ bankOf (NoBank number row) = record { refusal = number; row = row; rows = 0; dep
 unfoldable pub tableOf : Table → HostRead
 tableOf (Rows rows) = record { refusal = 0; row = 0; rows = rows; depth = 0 }
 tableOf (NoTable number row) = record { refusal = number; row = row; rows = 0; depth = 0 }
+
+-- how a width settles, by a number, and the figures of that case
+unfoldable pub settlingOf : Settling → HostSettling
+settlingOf (Within rounds walks) = record { refusal = 0; settles = 1; rounds = rounds; walks = walks; width = 0 }
+settlingOf AtOnce = record { refusal = 0; settles = 2; rounds = 0; walks = 0; width = 0 }
+settlingOf (NoStep width) = record { refusal = 0; settles = 3; rounds = 0; walks = 0; width = width }
+settlingOf (NoCandidate width) = record { refusal = 0; settles = 4; rounds = 0; walks = 0; width = width }
+settlingOf (Unsettled number) = record { refusal = number; settles = 0; rounds = 0; walks = 0; width = 0 }

@@ -7,10 +7,11 @@ use ledger::answer::Found;
 use ledger::answer::Stall;
 use ledger_rows::layout::ROOM;
 use speculative::drafter::DraftTime;
+use width_way::Settling;
 ghost use mathlib.Core.Path.{_≡_};
 ghost use lib.Ieee.{binary64, ofBits};
 ghost use Rattle.ledger_rows.specs.Layout.{room};
-ghost use Rattle.host.specs.Answers.{answerOf, countOf, stallOf, meanOf, timeOf, foundOf, plannedOf, bankOf, tableOf};
+ghost use Rattle.host.specs.Answers.{answerOf, countOf, stallOf, meanOf, timeOf, foundOf, plannedOf, bankOf, tableOf, settlingOf};
 
 // The draws that a plan used and the slots that it weighed.
 #[repr(C)]
@@ -49,6 +50,17 @@ pub struct HostRead {
     pub row: u64,
     pub rows: u32,
     pub depth: u32,
+}
+
+// What becomes of a width. `settles` is 1 where it is the target after at most so many rounds, by so many walks; 2 at once; 3 never, for max_step
+// is 0; 4 where the target is no candidate; 0 where it is refused. `width` is where 3 and 4 come to and stay.
+#[repr(C)]
+pub struct HostSettling {
+    pub refusal: u64,
+    pub settles: u64,
+    pub rounds: u64,
+    pub walks: u64,
+    pub width: u64,
 }
 
 // The words that a planner takes.
@@ -207,5 +219,36 @@ pub fn of_table(answer: measured::Answer) -> HostRead
             rows: 0,
             depth: 0,
         },
+    }
+}
+
+// An answer that has neither rounds nor walks.
+fn without_rounds(refusal: u64, settles: u64, width: u32) -> HostSettling
+    ensures { λ r. ⌜ r ≡ record { refusal = refusal; settles = settles; rounds = 0; walks = 0; width = width } ⌝ }
+{
+    HostSettling {
+        refusal,
+        settles,
+        rounds: 0,
+        walks: 0,
+        width: width as u64,
+    }
+}
+
+pub fn of_settling(answer: Settling) -> HostSettling
+    ensures { λ r. ⌜ r ≡ settlingOf answer ⌝ }
+{
+    match answer {
+        Settling::Within { rounds, walks } => HostSettling {
+            refusal: 0,
+            settles: 1,
+            rounds,
+            walks: walks as u64,
+            width: 0,
+        },
+        Settling::AtOnce => without_rounds(0, 2, 0),
+        Settling::NoStep(width) => without_rounds(0, 3, width),
+        Settling::NoCandidate(width) => without_rounds(0, 4, width),
+        Settling::Refused(number) => without_rounds(number, 0, 0),
     }
 }

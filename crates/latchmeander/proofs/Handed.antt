@@ -31,7 +31,7 @@ use Rattle.host.specs.Asked.{settingsFit, askFits, settingsOf, askOf, ratesOf, 
 use Rattle.host.specs.Answers.{countOf, plannedOf, timeOf, bankOf, tableOf}
 use Rattle.latchmeander.specs.Calls.{onFirst, seriesHanded, planHanded, planCalled, secondsCalled, acceptedCalled, bankHanded, tableHanded}
 
-abbrev beside : {B C : Type 0} → C → B → B × C
+abbrev pub beside : {B C : Type 0} → C → B → B × C
 beside w b = (b, w)
 
 pub handed : {A B C : Type 0} → (f : A → B) → (r : B) → (x : A) → (w : C) → (p : A × C) → r ≡ f x → (x, w) ≡ p → (r, w) ≡ onFirst f p

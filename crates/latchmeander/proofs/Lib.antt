@@ -1,1 +1,2 @@
 mod Handed
+mod Settled

@@ -10,6 +10,8 @@ use Rattle.judged_plans.specs.declared.Planned.the-variants.{Refused}
 use Rattle.judged_plans.specs.Plan.{Left, planned}
 use Rattle.verifies.specs.declared.Round.the-variants.{Committed, NotPlanned}
 use Rattle.verifies.specs.Accepted.{acceptedOf}
+use Rattle.width_way.specs.declared.Settling.the-variants.{Refused as Unsettled}
+use Rattle.settling.specs.Settling.{PricesLent, settles}
 use Rattle.ledger.specs.declared.answer.Count.{Count}
 use Rattle.bank.specs.Read.{Outcome as Bank}
 use Rattle.measured.specs.Fill.{Outcome as Table}
@@ -17,11 +19,12 @@ use Rattle.host.specs.declared.answers.HostPlan.{HostPlan}
 use Rattle.host.specs.declared.answers.HostCount.{HostCount}
 use Rattle.host.specs.declared.answers.HostFigure.{HostFigure}
 use Rattle.host.specs.declared.answers.HostRead.{HostRead}
+use Rattle.host.specs.declared.answers.HostSettling.{HostSettling}
 use Rattle.host.specs.declared.asked.HostSettings.{HostSettings}
 use Rattle.host.specs.declared.asked.HostRates.{HostRates}
 use Rattle.host.specs.declared.asked.HostAsk.{HostAsk}
 use Rattle.host.specs.Asked.{settingsFit, askFits, settingsOf, askOf, ratesOf, drafterOf}
-use Rattle.host.specs.Answers.{countOf, plannedOf, timeOf, bankOf, tableOf}
+use Rattle.host.specs.Answers.{countOf, plannedOf, timeOf, bankOf, tableOf, settlingOf}
 
 -- the answer as it crosses, and the rest as it is
 abbrev pub onFirst : {A B C : Type 0} → (A → B) → A × C → B × C
@@ -48,6 +51,11 @@ secondsCalled s r verify widths loaded =
 
 unfoldable pub acceptedCalled : ℕ → Bool → ℕ → ℕ
 acceptedCalled draft isPlanned commits = acceptedOf draft (cond isPlanned (Committed commits) NotPlanned)
+
+-- 12 where a number stands for no case, and then nothing is written
+unfoldable pub settlesCalled : HostSettings → HostAsk → PricesLent → ℕ → ℕ → List ℕ → HostSettling × List ℕ
+settlesCalled s a l width target widths =
+    onFirst settlingOf (cond (settingsFit s && askFits a) (settles (settingsOf s) (askOf a) l width target widths) (Unsettled 12, widths))
 
 -- a file that was read, and the three buffers
 abbrev pub bankHanded : Bank → HostRead × List ℕ × List Float × List Float

@@ -10,11 +10,12 @@ use Rattle.host.specs.declared.answers.HostCount.{HostCount}
 use Rattle.host.specs.declared.answers.HostFigure.{HostFigure}
 use Rattle.host.specs.declared.answers.HostPlan.{HostPlan}
 use Rattle.host.specs.declared.answers.HostRead.{HostRead}
+use Rattle.host.specs.declared.answers.HostSettling.{HostSettling}
 use Rattle.host.specs.declared.answers.HostWorker.{HostWorker}
 use Rattle.host.specs.declared.asked.HostAsk.{HostAsk}
 use Rattle.host.specs.declared.asked.HostRates.{HostRates}
 use Rattle.host.specs.declared.asked.HostSettings.{HostSettings}
-use Rattle.latchmeander.specs.Calls.{acceptedCalled, bankHanded, onFirst, planCalled, secondsCalled, seriesHanded, tableHanded}
+use Rattle.latchmeander.specs.Calls.{acceptedCalled, bankHanded, onFirst, planCalled, secondsCalled, seriesHanded, settlesCalled, tableHanded}
 use Rattle.ledger.specs.Calls.{collected, countOf as counted, dayFigure, emptied, seriesRead, withdrawn, workerOf}
 use Rattle.ledger_rows.specs.Layout.{available, room, secondsHeld, workersHeld}
 use Rattle.measured.specs.Fill.{tableRead}
@@ -53,6 +54,9 @@ latchmeander-worker-once storage a b x y p q = once p q
 
 pub latchmeander-plan-once : (settings : HostSettings) (ask : HostAsk) (positions roofline : List Float) (depths batches : List ℕ) (seconds loaded : List Float) («bank_commits» : List ℕ) (signals «bank_curve» draws : List Float) (indices storage drafts commits : List ℕ) → OnlyFour (λ (r : HostPlan) (storage′ : List ℕ) (drafts′ : List ℕ) (commits′ : List ℕ). (r, storage′, drafts′, commits′) ≡ planCalled settings ask (record { positions = positions; roofline = roofline; depths = depths; batches = batches; seconds = seconds; loaded = loaded; bankCommits = «bank_commits»; signals = signals; bankCurve = «bank_curve»; draws = draws; indices = indices }) storage drafts commits)
 latchmeander-plan-once settings ask positions roofline depths batches seconds loaded «bank_commits» signals «bank_curve» draws indices storage drafts commits x b c d y b′ c′ d′ p q = tuple-once p q
+
+pub latchmeander-settles-once : (settings : HostSettings) (ask : HostAsk) (roofline : List Float) (depths batches : List ℕ) (seconds : List Float) (width target : ℕ) (widths : List ℕ) → OnlyTwo (λ (r : HostSettling) (widths′ : List ℕ). (r, widths′) ≡ settlesCalled settings ask (record { roofline = roofline; depths = depths; batches = batches; seconds = seconds }) width target widths)
+latchmeander-settles-once settings ask roofline depths batches seconds width target widths x b y c p q = pair-once p q
 
 pub latchmeander-drafter-seconds-once : (settings : HostSettings) (rates : HostRates) («verify_c» : Float) (widths : List ℕ) (loaded : List Float) → OnlyOne (λ (r : HostFigure). r ≡ secondsCalled settings rates «verify_c» widths loaded)
 latchmeander-drafter-seconds-once settings rates «verify_c» widths loaded x y p q = once p q

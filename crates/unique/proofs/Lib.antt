@@ -21,6 +21,7 @@ pub mod Ledger
 pub mod Settings
 pub mod Asking
 pub mod Planner
+pub mod Settling
 pub mod CaseFiles
 pub mod LedgerSums
 pub mod DayLine
