@@ -2,6 +2,7 @@
 // it is until it is set anew.
 pub mod lists;
 pub mod registers;
+pub mod settles;
 
 // Whether a turn of a letter sets something: `r` sets registers and `l` a list.
 pub fn is_setting(letter: u8) -> bool {

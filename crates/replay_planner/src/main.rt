@@ -88,6 +88,7 @@ fn finish(case: Case, counts: &[u64]) {
     tally::print_kind(counts, b'p', b"whole planners");
     tally::print_kind(counts, b'd', b"planners with damaged plans");
     tally::print_kind(counts, b'f', b"full planners");
+    tally::print_kind(counts, b's', b"planners whose widths settle");
     print_plans(words::at(counts, 78), words::at(counts, 79));
     tally::print_sums(&counts[0..78]);
 }

@@ -60,6 +60,7 @@ pub const KINDS: [Kind; 7] = [
             ("d", "planners with damaged plans"),
             ("f", "full planners"),
             ("p", "whole planners"),
+            ("s", "planners whose widths settle"),
         ],
     },
 ];

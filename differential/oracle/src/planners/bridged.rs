@@ -71,7 +71,7 @@ fn signals(plan: &Plan) -> Vec<Vec<f64>> {
 
 /// The price curve in force. The lookups are the Rust's own; it adds and compares inside a plan, so the
 /// sum and the maximum are written out here.
-fn curve(world: &World, n: u32, table: Option<&MeasuredCostTable>) -> Vec<f64> {
+pub fn curve(world: &World, n: u32, table: Option<&MeasuredCostTable>) -> Vec<f64> {
     let Some(table) = table else {
         return floats(&world.lists[ROOFLINE][..=world.capped() as usize]);
     };

@@ -173,7 +173,7 @@ fn is_valued(plan: &Plan) -> bool {
 }
 
 /// Seconds above 0 and at most 10^17, depths ascending, batches never falling within a depth.
-fn is_table(rows: &[(u32, u32, u64)]) -> bool {
+pub fn is_table(rows: &[(u32, u32, u64)]) -> bool {
     let are_seconds =
         |&(_, _, seconds): &(u32, u32, u64)| seconds != 0 && in_range(seconds, 0.0, 1e17);
     let ascends = |pair: &[(u32, u32, u64)]| {

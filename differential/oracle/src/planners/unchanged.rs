@@ -135,12 +135,16 @@ fn config(world: &World) -> SpeculativeConfig {
             Policy::GatedAggregate => GammaPolicy::GatedAggregate,
         },
         measured_cost: None,
-        switch: SwitchConstraints {
-            cooldown_rounds: world.cooldown,
-            max_step: world.max_step,
-            cost_ms: f64::from_bits(world.cost_ms),
-        },
+        switch: switch_of(world),
         drafter: (!is_absent).then(|| cost_of(world.drafter)),
+    }
+}
+
+pub fn switch_of(world: &World) -> SwitchConstraints {
+    SwitchConstraints {
+        cooldown_rounds: world.cooldown,
+        max_step: world.max_step,
+        cost_ms: f64::from_bits(world.cost_ms),
     }
 }
 
@@ -165,7 +169,7 @@ fn bank(world: &World) -> Option<Arc<TraceBank>> {
 }
 
 /// The table as its rows stand; where its columns are short no plan reads it.
-fn table(world: &World) -> Option<MeasuredCostTable> {
+pub fn table(world: &World) -> Option<MeasuredCostTable> {
     if !world.has_table {
         return None;
     }

@@ -41,6 +41,11 @@ impl Held {
         }
     }
 
+    /// Whether a plan would be refused.
+    pub fn refuses(&self, plan: &Plan) -> bool {
+        matches!(judged(plan, &self.unchanged.planner), Judged::Refused(_))
+    }
+
     /// The bits of a worker's stall. An unknown worker's is 0.0, and is no change.
     pub fn collect(&mut self, a: u64, b: u64) -> u64 {
         let worker = (a as usize, b as usize);

@@ -1,5 +1,6 @@
-//! Writes files of cases of whole planners: their calls, answered by the unchanged Rust's planner, and
-//! damaged plans, refused by the rules' plan order.
+//! Writes files of cases of whole planners: their calls, answered by the unchanged Rust's planner,
+//! damaged plans, refused by the rules' plan order, and widths that settle.
+mod asked;
 #[cfg(test)]
 mod examples;
 mod full;
@@ -10,6 +11,8 @@ mod random;
 mod sample;
 mod scene;
 mod script;
+mod settled;
+mod sharp;
 
 use numbers::commands::{run, Writer};
 use std::process::ExitCode;

@@ -1,8 +1,10 @@
-//! What the plans of cases met: each refusal, and each way in which a plan was made.
+//! What the plans of cases met: each refusal, and each way in which a plan was made; and what the questions
+//! how long a width takes to settle met.
 use numbers::shapes::{shape_of, Shapes};
 use oracle::drafter::Drafter;
 use oracle::planners::judge::is_constrained;
 use oracle::planners::plan::Planned;
+use oracle::planners::settling::{candidates, Question, Settled};
 use oracle::planners::world::{Policy, World, ROOFLINE};
 use oracle::plans::prices::{is_deep, INFINITY};
 use std::fmt::{self, Display};
@@ -13,6 +15,7 @@ const DRAFTERS: [&str; 4] = ["none", "Fraction", "Autoregressive", "BlockParalle
 const PRICES: [&str; 2] = ["roofline", "table"];
 const SWITCHING: [&str; 2] = ["free", "constrained"];
 const MODES: [&str; 2] = ["gated by default", "bridged"];
+const SETTLING: [&str; 4] = ["within", "at once", "no step", "no candidate"];
 
 /// Counts of plans; of those that were made, by what they were made under.
 #[derive(Clone, Debug, Default, PartialEq, Eq, Hash)]
@@ -29,9 +32,56 @@ pub struct Met {
     pub weighed: u64,
     pub sequences: u64,
     pub shapes: Shapes,
+    /// The questions that are refused, by number; what the others are answered; and their shapes.
+    pub not_settling: [u64; 22],
+    pub settling: [u64; 4],
+    pub settling_shapes: Shapes,
+    /// The walks of those that arrive.
+    pub walks: u64,
+    /// The ways that a planner's worker went to their end, and the rounds that it made on them.
+    pub gone: u64,
+    pub rounds: u64,
 }
 
 impl Met {
+    /// A way that was gone in so many rounds.
+    pub fn count_way(&mut self, rounds: u64) {
+        self.gone += 1;
+        self.rounds += rounds;
+    }
+
+    /// A question how long a width takes to settle, and its answer.
+    pub fn count_settling(&mut self, world: &World, question: Question, settled: &Settled) {
+        let answered = match settled {
+            Settled::Refused(number) => {
+                self.not_settling[*number as usize] += 1;
+                return;
+            }
+            Settled::Within { widths, .. } => {
+                self.walks += widths.len() as u64;
+                0
+            }
+            Settled::AtOnce => 1,
+            Settled::NoStep(_) => 2,
+            Settled::NoCandidate(_) => 3,
+        };
+        self.settling[answered] += 1;
+        let candidates = candidates(world);
+        let is_whole = (0..).zip(&candidates).all(|(at, &depth)| at == depth);
+        self.settling_shapes.count(shape_of(&[
+            ("of a table", world.has_table),
+            ("many", candidates.len() > 16),
+            ("none", candidates.is_empty()),
+            ("with holes", !is_whole),
+            ("snapped", !candidates.contains(&question.width)),
+            ("there", question.width == question.target),
+            (
+                "by steps",
+                matches!(settled, Settled::Within { widths, .. } if widths.len() > 1),
+            ),
+        ]));
+    }
+
     /// A plan and what it answered; `stalled`: whether its worker had a stall before it.
     pub fn count(&mut self, world: &World, planned: &Planned, stalled: bool) {
         let (weighed, drafts) = match planned {
@@ -81,6 +131,8 @@ impl Met {
             (&mut self.prices, &more.prices),
             (&mut self.switching, &more.switching),
             (&mut self.modes, &more.modes),
+            (&mut self.not_settling, &more.not_settling),
+            (&mut self.settling, &more.settling),
         ];
         for (sums, more) in sums {
             for (sum, more) in sums.iter_mut().zip(more) {
@@ -91,6 +143,10 @@ impl Met {
         self.weighed += more.weighed;
         self.sequences += more.sequences;
         self.shapes.add(&more.shapes);
+        self.settling_shapes.add(&more.settling_shapes);
+        self.walks += more.walks;
+        self.gone += more.gone;
+        self.rounds += more.rounds;
     }
 
     pub fn made(&self) -> u64 {
@@ -117,14 +173,38 @@ fn named(names: &[&str], counts: &[u64]) -> String {
     each.join(", ")
 }
 
+/// The counts that are not 0, each behind its number.
+fn numbered(counts: &[u64]) -> String {
+    let met = counts.iter().enumerate().filter(|(_, n)| **n > 0);
+    let met: Vec<String> = met.map(|(key, n)| format!("{key}: {n}")).collect();
+    met.join(", ")
+}
+
+impl Met {
+    fn fmt_settling(&self, f: &mut fmt::Formatter<'_>) -> fmt::Result {
+        let refused: u64 = self.not_settling.iter().sum();
+        let asked = refused + self.settling.iter().sum::<u64>();
+        if asked == 0 {
+            return Ok(());
+        }
+        let numbers = numbered(&self.not_settling);
+        let (walks, shapes) = (self.walks, &self.settling_shapes);
+        write!(
+            f,
+            "\nsettles {asked}; walks {walks}; refused {refused} ({numbers}); {shapes}"
+        )?;
+        let [gone, rounds] = [self.gone, self.rounds];
+        write!(f, "\n{}", named(&SETTLING, &self.settling))?;
+        write!(f, "\nways gone {gone}, rounds on them {rounds}")
+    }
+}
+
 impl Display for Met {
     fn fmt(&self, f: &mut fmt::Formatter<'_>) -> fmt::Result {
         let refused: u64 = self.refused.iter().sum();
-        let numbers = self.refused.iter().enumerate().filter(|(_, n)| **n > 0);
-        let numbers: Vec<String> = numbers.map(|(key, n)| format!("{key}: {n}")).collect();
         let plans = self.made() + self.empty + refused;
         writeln!(f, "plans {plans}; empty {}", self.empty)?;
-        writeln!(f, "refused {refused} ({})", numbers.join(", "))?;
+        writeln!(f, "refused {refused} ({})", numbered(&self.refused))?;
         let [weighed, sequences] = [self.weighed, self.sequences];
         writeln!(
             f,
@@ -137,6 +217,7 @@ impl Display for Met {
         writeln!(f, "{}", named(&PRICES, &self.prices))?;
         writeln!(f, "{}", named(&SWITCHING, &self.switching))?;
         writeln!(f, "{}", named(&MODES, &self.modes))?;
-        write!(f, "{}", self.shapes)
+        write!(f, "{}", self.shapes)?;
+        self.fmt_settling(f)
     }
 }

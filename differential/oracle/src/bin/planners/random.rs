@@ -1,8 +1,10 @@
 //! Random planners from a seed, without end.
+use crate::asked::asking;
 use crate::full::{full_second, full_seconds, full_workers};
 use crate::planner_case::PlannerCase;
 use crate::scene::Scene;
 use crate::script::Script;
+use crate::settled::settling;
 use numbers::dice::Dice;
 use numbers::kept::Kept;
 use oracle::planners::damages::{damaged, damaged_by, SORTS};
@@ -19,7 +21,8 @@ pub fn space(seed: u64) -> String {
         "space: random planners of up to 60 calls, over all policies, models, drafters and both \
          sources of prices, half of them in the bridged mode and half of their rooflines with holes, \
          with altered settings, clocks that go back, end times of any pattern and \
-         withdrawals; others of damaged plans, of any refusal; some with 65,536 rounds and 4,096 rows, \
+         withdrawals, and questions how long a width takes to settle; others of damaged plans, of any refusal; \
+         others of such questions alone, or of rounds until a width has settled; some with 65,536 rounds and 4,096 rows, \
          with 4,096 seconds, with 256 workers or with 1,000,000 steps in a second; seed {seed}"
     )
 }
@@ -39,7 +42,7 @@ pub fn with_calls(seed: u64, place: usize, kept: &Kept) -> (PlannerCase, usize) 
     (case(Script::of(kept.clone()), &mut dice), calls)
 }
 
-/// Four planners to one with damaged plans.
+/// Seven planners to two with damaged plans and one whose widths settle.
 fn case(script: Script, dice: &mut Dice) -> PlannerCase {
     let shape = Shape::random(dice);
     match dice.below(1_000) {
@@ -47,6 +50,8 @@ fn case(script: Script, dice: &mut Dice) -> PlannerCase {
         0 => full_seconds(script, dice.between(4_093, 4_098), dice),
         1 | 2 => full_workers(script, dice.between(253, 258), dice.once_in(3), dice),
         3..=202 => damages(script, shape, dice.between(20, 30), dice),
+        203..=272 => settling(script, shape, dice.between(0, 12), dice),
+        273..=302 => asking(script, shape, dice.between(5, 15), dice),
         _ => whole(script, shape, dice.pick(&[1, 3, 8, 12, 20, 60]), dice),
     }
 }

@@ -3,6 +3,7 @@ use crate::script::{Script, MOST_SERIES};
 use numbers::dice::Dice;
 use oracle::clock::Clock;
 use oracle::planners::plan::Plan;
+use oracle::planners::questions::{question, set_switch};
 use oracle::planners::world::{Policy, World, POLICIES};
 use oracle::planners::worlds::{self, Shape};
 use std::rc::Rc;
@@ -39,9 +40,26 @@ impl Scene {
             1 => most,
             _ => dice.between(1, most),
         };
-        let (a, b) = self.worker(dice);
+        let worker = self.worker(dice);
+        let world = Rc::clone(&self.world);
+        self.plan_of(&world, n, worker, dice)
+    }
+
+    /// A plan of at least one sequence under other settings, for a worker.
+    pub fn of(&mut self, world: &Rc<World>, worker: (u64, u64), dice: &mut Dice) -> Plan {
+        let n = dice.between(1, self.shape.most);
+        self.plan_of(world, n, worker, dice)
+    }
+
+    fn plan_of(
+        &mut self,
+        world: &Rc<World>,
+        n: usize,
+        (a, b): (u64, u64),
+        dice: &mut Dice,
+    ) -> Plan {
         let end = self.clock.next(dice);
-        let plan = worlds::plan(&self.world, n, dice);
+        let plan = worlds::plan(world, n, dice);
         Plan { a, b, end, ..plan }
     }
 
@@ -51,7 +69,7 @@ impl Scene {
 
     /// One call of a planner.
     pub fn call(&mut self, script: &mut Script, dice: &mut Dice) {
-        match dice.below(24) {
+        match dice.below(26) {
             0..=2 => script.withdraw(),
             3 | 4 => script.collect(self.worker(dice)),
             5 => script.record(self.worker(dice)),
@@ -63,8 +81,21 @@ impl Scene {
                 let commits = dice.pick(&[None, Some(some), Some(u32::MAX)]);
                 script.accepted(dice.below(66) as u32, commits);
             }
+            10 | 11 => self.ask(script, dice),
             _ => script.plan(self.plan(dice)),
         }
+    }
+
+    /// How long the width of one of the workers takes to settle, or any other.
+    fn ask(&self, script: &mut Script, dice: &mut Dice) {
+        let (a, b) = self.worker(dice);
+        let held = script.held.record(a, b).map(|record| record.0);
+        let mut world = (*self.world).clone();
+        if dice.once_in(2) {
+            set_switch(&mut world, dice);
+        }
+        let question = question(&world, held, dice);
+        script.settles(&Rc::new(world), question);
     }
 
     fn read_series(&self, script: &mut Script, dice: &mut Dice) {

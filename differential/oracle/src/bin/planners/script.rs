@@ -6,7 +6,10 @@ use crate::planner_case::PlannerCase;
 use numbers::kept::Kept;
 use numbers::word_case::WordCase;
 use oracle::clock::end_in;
+use oracle::planners::arriving::assert_arrives;
 use oracle::planners::plan::{Plan, Planned, MOST_SLOTS, WHOLE};
+use oracle::planners::questions::MOST_WIDTHS;
+use oracle::planners::settling::{settled, Question, Settled};
 use oracle::planners::world::{World, MODE_REGISTER};
 use oracle::plans::verify_price::Mode;
 use oracle::simulation::spec::SpecPlanner;
@@ -103,7 +106,13 @@ impl Script {
     }
 
     fn set(&mut self, plan: &Plan) {
-        let registers = plan.world.registers();
+        self.set_world(&plan.world);
+        self.set_list(9, &plan.draws);
+        self.set_list(10, &plan.indices);
+    }
+
+    fn set_world(&mut self, world: &Rc<World>) {
+        let registers = world.registers();
         let differ = |at: &usize| registers[*at] != self.registers[*at];
         let first = (0..registers.len()).find(differ);
         let last = (0..registers.len()).rfind(differ);
@@ -112,19 +121,17 @@ impl Script {
             self.registers = registers;
             self.turn(b'r', &words);
         }
-        if plan.world.prices != self.mode {
-            self.mode = plan.world.prices;
+        if world.prices != self.mode {
+            self.mode = world.prices;
             self.turn(b'r', &[MODE_REGISTER, self.mode as u64]);
         }
         let held = self.world.as_ref();
-        if !held.is_some_and(|held| Rc::ptr_eq(held, &plan.world)) {
-            for (number, list) in plan.world.lists.iter().enumerate() {
+        if !held.is_some_and(|held| Rc::ptr_eq(held, world)) {
+            for (number, list) in world.lists.iter().enumerate() {
                 self.set_list(number, list);
             }
-            self.world = Some(Rc::clone(&plan.world));
+            self.world = Some(Rc::clone(world));
         }
-        self.set_list(9, &plan.draws);
-        self.set_list(10, &plan.indices);
     }
 
     fn set_list(&mut self, number: usize, list: &[u64]) {
@@ -169,11 +176,15 @@ impl Script {
             }
         };
         self.answer.extend(head);
-        for (written, slots) in [(drafts, plan.drafts), (commits, plan.commits)] {
-            let end = self.answer.len() + slots;
-            self.answer.extend(written.iter().map(|&n| u64::from(n)));
-            self.answer.resize(end, WHOLE_BEFORE);
-        }
+        self.put_slots(drafts, plan.drafts);
+        self.put_slots(commits, plan.commits);
+    }
+
+    /// What is written, and the slots behind it as they were.
+    fn put_slots(&mut self, written: &[u32], slots: usize) {
+        let end = self.answer.len() + slots;
+        self.answer.extend(written.iter().map(|&n| u64::from(n)));
+        self.answer.resize(end, WHOLE_BEFORE);
     }
 
     pub fn many(&mut self, plan: &Plan, many: Many) {
@@ -196,6 +207,36 @@ impl Script {
             }
         }
         self.answer.extend([refusal, accepted]);
+    }
+
+    /// How long a width takes to settle.
+    pub fn settles(&mut self, world: &Rc<World>, question: Question) {
+        if !self.is_next_kept() {
+            return;
+        }
+        let Question {
+            width,
+            target,
+            slots,
+        } = question;
+        assert!(slots <= MOST_WIDTHS);
+        self.set_world(world);
+        self.turn(b's', &[width.into(), target.into(), slots as u64]);
+        let settled = settled(world, question);
+        assert_arrives(world, question, &settled);
+        self.met.count_settling(world, question, &settled);
+        let none: &[u32] = &[];
+        let (head, widths) = match &settled {
+            Settled::Refused(number) => ([*number, 0, 0, 0, 0], none),
+            Settled::Within { rounds, widths } => {
+                ([0, 1, *rounds, widths.len() as u64, 0], &widths[..])
+            }
+            Settled::AtOnce => ([0, 2, 0, 0, 0], none),
+            Settled::NoStep(width) => ([0, 3, 0, 0, u64::from(*width)], none),
+            Settled::NoCandidate(width) => ([0, 4, 0, 0, u64::from(*width)], none),
+        };
+        self.answer.extend(head);
+        self.put_slots(widths, slots);
     }
 
     pub fn collect(&mut self, (a, b): (u64, u64)) {
