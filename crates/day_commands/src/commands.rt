@@ -70,6 +70,7 @@ fn command(
         Command::Series => told::series(turn, storage, page),
         Command::SeriesBits => told::series_bits(turn, storage, page),
         Command::Day => told::day(turn, storage, page),
+        Command::Settles => day_settles::settles(turn, line, set, floats, wholes, page),
         Command::Unknown => turns::wrong(turn, 0, 8, page),
     }
 }

@@ -4,7 +4,7 @@ use mathlib.Core.List.{List, [], _∷_}
 use Rattle.text.specs.Fields.{fields}
 use Rattle.day_line.specs.DayLine.{uncommented, fieldOf}
 use Rattle.day_names.specs.declared.Command.{Command}
-use Rattle.day_names.specs.declared.Command.the-variants.{Nothing, Gamma, Policy, Acceptance, Drafter, Switch, Rates, Roofline, Table, Loaded, Prices, Plan, Collect, Withdraw, Series, SeriesBits, Day, Unknown}
+use Rattle.day_names.specs.declared.Command.the-variants.{Nothing, Gamma, Policy, Acceptance, Drafter, Switch, Rates, Roofline, Table, Loaded, Prices, Plan, Collect, Withdraw, Series, SeriesBits, Day, Settles, Unknown}
 use Rattle.day_names.specs.declared.AcceptanceName.{AcceptanceName}
 use Rattle.day_names.specs.declared.AcceptanceName.the-variants.{Constant, PerPosition, Trace, Unknown as NoAcceptance}
 use Rattle.day_names.specs.declared.DrafterName.{DrafterName}
@@ -58,6 +58,7 @@ commandShaped Withdraw line = shaped [] line
 commandShaped Series line = shaped [] line
 commandShaped SeriesBits line = shaped (anyText ∷ []) line
 commandShaped Day line = shaped [] line
+commandShaped Settles line = shaped (whole ∷ whole ∷ []) line
 commandShaped Unknown line = Wrong 0 8
 
 unfoldable pub lineJudged : List ℕ → Judged

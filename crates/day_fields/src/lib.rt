@@ -34,6 +34,7 @@ pub fn line_judged(line: &[u8]) -> Judged
         Command::Series => shape_judged(line, b"t"),
         Command::SeriesBits => shape_judged(line, b"tt"),
         Command::Day => shape_judged(line, b"t"),
+        Command::Settles => shape_judged(line, b"tww"),
         Command::Unknown => Judged::Wrong {
             field: 0,
             expected: 8,

@@ -85,6 +85,21 @@ no-prices : lineJudged (112 ∷ 114 ∷ 105 ∷ 99 ∷ 101 ∷ 115 ∷ 44 ∷ 99
 unfolding uncommented actNamed settingNamed commandOf pricesOf fieldWrong lineJudged
 no-prices = refl
 
+-- `settles,6,0`
+settles-right : lineJudged (115 ∷ 101 ∷ 116 ∷ 116 ∷ 108 ∷ 101 ∷ 115 ∷ 44 ∷ 54 ∷ 44 ∷ 48 ∷ []) ≡ Right
+unfolding uncommented actNamed settingNamed commandOf wholeOf fieldWrong lineJudged
+settles-right = refl
+
+-- `settles,6`
+settles-one : lineJudged (115 ∷ 101 ∷ 116 ∷ 116 ∷ 108 ∷ 101 ∷ 115 ∷ 44 ∷ 54 ∷ []) ≡ Wrong 2 1
+unfolding uncommented actNamed settingNamed commandOf wholeOf fieldWrong lineJudged
+settles-one = refl
+
+-- `settles,6,none`
+settles-none : lineJudged (115 ∷ 101 ∷ 116 ∷ 116 ∷ 108 ∷ 101 ∷ 115 ∷ 44 ∷ 54 ∷ 44 ∷ 110 ∷ 111 ∷ 110 ∷ 101 ∷ []) ≡ Wrong 2 5
+unfolding uncommented actNamed settingNamed commandOf wholeOf fieldWrong lineJudged
+settles-none = refl
+
 -- `gama,4`
 no-command : lineJudged (103 ∷ 97 ∷ 109 ∷ 97 ∷ 44 ∷ 52 ∷ []) ≡ Wrong 0 8
 unfolding uncommented actNamed settingNamed commandOf policyOf acceptanceOf drafterOf wholeOf isTooLong ofParts unsignedOf decimalOf fieldWrong lineJudged

@@ -7,7 +7,7 @@ use lib.ListN.{length}
 use Rattle.text.specs.Fields.{sameText}
 use Rattle.day_line.specs.DayLine.{uncommented, fieldOf}
 use Rattle.day_names.specs.declared.Command.{Command}
-use Rattle.day_names.specs.declared.Command.the-variants.{Nothing, Gamma, Policy, Acceptance, Drafter, Switch, Rates, Roofline, Table, Loaded, Prices, Plan, Collect, Withdraw, Series, SeriesBits, Day, Unknown}
+use Rattle.day_names.specs.declared.Command.the-variants.{Nothing, Gamma, Policy, Acceptance, Drafter, Switch, Rates, Roofline, Table, Loaded, Prices, Plan, Collect, Withdraw, Series, SeriesBits, Day, Settles, Unknown}
 use Rattle.day_names.specs.declared.PolicyName.{PolicyName}
 use Rattle.day_names.specs.declared.PolicyName.the-variants.{Fixed, GoodputBudget, GatedBudget, GatedAggregate, Unknown as NoPolicy}
 use Rattle.day_names.specs.declared.AcceptanceName.{AcceptanceName}
@@ -81,6 +81,10 @@ bitsText = 98 ∷ 105 ∷ 116 ∷ 115 ∷ []
 abbrev pub dayText : List ℕ
 dayText = 100 ∷ 97 ∷ 121 ∷ []
 
+-- `settles`
+abbrev pub settlesText : List ℕ
+settlesText = 115 ∷ 101 ∷ 116 ∷ 116 ∷ 108 ∷ 101 ∷ 115 ∷ []
+
 -- `fixed`
 abbrev pub fixedText : List ℕ
 fixedText = 102 ∷ 105 ∷ 120 ∷ 101 ∷ 100 ∷ []
@@ -144,7 +148,8 @@ actNamed name =
     (cond (sameText name withdrawText) Withdraw
     (cond (sameText name seriesText) Series
     (cond (sameText name dayText) Day
-    Unknown))))
+    (cond (sameText name settlesText) Settles
+    Unknown)))))
 
 -- the command of this name
 unfoldable pub settingNamed : List ℕ → Command

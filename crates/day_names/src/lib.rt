@@ -21,6 +21,7 @@ pub enum Command {
     Series,
     SeriesBits,
     Day,
+    Settles,
     Unknown,
 }
 
@@ -131,6 +132,9 @@ fn act_named(name: &[u8]) -> Command
     }
     if text::same(name, b"day") {
         return Command::Day;
+    }
+    if text::same(name, b"settles") {
+        return Command::Settles;
     }
     Command::Unknown
 }

@@ -3,7 +3,7 @@ use Prim.Native.Nat.{ℕ}
 use mathlib.Core.Bool.{cond}
 use lib.Dec.{eqb}
 use Rattle.day_names.specs.declared.Command.{Command}
-use Rattle.day_names.specs.declared.Command.the-variants.{Nothing, Gamma, Policy, Acceptance, Drafter, Switch, Rates, Roofline, Table, Loaded, Prices, Plan, Collect, Withdraw, Series, SeriesBits, Day, Unknown}
+use Rattle.day_names.specs.declared.Command.the-variants.{Nothing, Gamma, Policy, Acceptance, Drafter, Switch, Rates, Roofline, Table, Loaded, Prices, Plan, Collect, Withdraw, Series, SeriesBits, Day, Settles, Unknown}
 use Rattle.day_names.specs.declared.PolicyName.{PolicyName}
 use Rattle.day_names.specs.declared.PolicyName.the-variants.{Fixed, GoodputBudget, GatedBudget, GatedAggregate, Unknown as NoPolicy}
 use Rattle.day_names.specs.declared.AcceptanceName.{AcceptanceName}
@@ -39,7 +39,8 @@ commandNumber Withdraw = 13
 commandNumber Series = 14
 commandNumber SeriesBits = 15
 commandNumber Day = 16
-commandNumber Unknown = 17
+commandNumber Settles = 17
+commandNumber Unknown = 18
 
 abbrev pub policyNumber : PolicyName → ℕ
 policyNumber Fixed = 0

@@ -30,7 +30,8 @@ pub extern "C" fn day_names_command_of(line: &[u8]) -> u64
         Command::Series => 14,
         Command::SeriesBits => 15,
         Command::Day => 16,
-        Command::Unknown => 17,
+        Command::Settles => 17,
+        Command::Unknown => 18,
     }
 }
 

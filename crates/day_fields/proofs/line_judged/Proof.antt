@@ -161,6 +161,15 @@ shape-judged-requires-14 c κs = search needs
 enum-told-18 : tie.Need-enum-told-18
 enum-told-18 c = search needs
 
+slice-aggregate-shape-judged-15 : tie.Need-slice-aggregate-shape-judged-15
+slice-aggregate-shape-judged-15 c = search needs
+
+shape-judged-requires-15 : tie.Need-shape-judged-requires-15
+shape-judged-requires-15 c κs = search needs
+
+enum-told-19 : tie.Need-enum-told-19
+enum-told-19 c = search needs
+
 returns : tie.Need-returns
 unfolding lineJudged
 returns c = told (c .before .before .before .before .args .line .now) (c .before .before .command-of .result) _ _ _ (c .before .before .command-of .ensures) (c .enum-told .given .1) refl
@@ -231,7 +240,11 @@ returns-17 c = told (c .before .before .before .before .before .before .args .li
 
 returns-18 : tie.Need-returns-18
 unfolding lineJudged
-returns-18 c = told (c .before .before .before .before .args .line .now) (c .before .before .command-of .result) _ _ _ (c .before .before .command-of .ensures) (c .enum-told18 .given .1) refl
+returns-18 c = told (c .before .before .before .before .before .before .args .line .now) (c .before .before .before .before .command-of .result) _ _ _ (c .before .before .before .before .command-of .ensures) (c .before .before .enum-told18 .given .1) (c .shape-judged15 .ensures)
+
+returns-19 : tie.Need-returns-19
+unfolding lineJudged
+returns-19 c = told (c .before .before .before .before .args .line .now) (c .before .before .command-of .result) _ _ _ (c .before .before .command-of .ensures) (c .enum-told19 .given .1) refl
 
 pub line-judged-spec : {M : Type 1} → statement M
 line-judged-spec =
@@ -286,6 +299,9 @@ line-judged-spec =
     slice-aggregate-shape-judged-14
     shape-judged-requires-14
     enum-told-18
+    slice-aggregate-shape-judged-15
+    shape-judged-requires-15
+    enum-told-19
     returns
     returns-2
     returns-3
@@ -303,4 +319,5 @@ line-judged-spec =
     returns-15
     returns-16
     returns-17
-    returns-18)
+    returns-18
+    returns-19)

@@ -71,15 +71,32 @@ returns-5 c =
     (past _ _ _ (c .before .before .before .before .same4 .ensures) (c .before .before .before .if4 .left)
     (here _ _ (c .before .same5 .ensures) (c .if5 .taken)))))
 
+slice-aggregate-same-6 : tie.Need-slice-aggregate-same-6
+slice-aggregate-same-6 c = search needs
+
+same-requires-6 : tie.Need-same-requires-6
+same-requires-6 c κs = search needs
+
 returns-6 : tie.Need-returns-6
 unfolding actNamed
 returns-6 c =
-    past _ _ _ (c .before .before .before .before .before .before .before .before .before .before .before .before .before .same .ensures) (c .before .before .before .before .before .before .before .before .before .before .before .before .if1 .left)
-    (past _ _ _ (c .before .before .before .before .before .before .before .before .before .before .same2 .ensures) (c .before .before .before .before .before .before .before .before .before .if2 .left)
-    (past _ _ _ (c .before .before .before .before .before .before .before .same3 .ensures) (c .before .before .before .before .before .before .if3 .left)
-    (past _ _ _ (c .before .before .before .before .same4 .ensures) (c .before .before .before .if4 .left)
-    (past _ _ _ (c .before .same5 .ensures) (c .if5 .left)
-    (refl)))))
+    past _ _ _ (c .before .before .before .before .before .before .before .before .before .before .before .before .before .before .before .before .same .ensures) (c .before .before .before .before .before .before .before .before .before .before .before .before .before .before .before .if1 .left)
+    (past _ _ _ (c .before .before .before .before .before .before .before .before .before .before .before .before .before .same2 .ensures) (c .before .before .before .before .before .before .before .before .before .before .before .before .if2 .left)
+    (past _ _ _ (c .before .before .before .before .before .before .before .before .before .before .same3 .ensures) (c .before .before .before .before .before .before .before .before .before .if3 .left)
+    (past _ _ _ (c .before .before .before .before .before .before .before .same4 .ensures) (c .before .before .before .before .before .before .if4 .left)
+    (past _ _ _ (c .before .before .before .before .same5 .ensures) (c .before .before .before .if5 .left)
+    (here _ _ (c .before .same6 .ensures) (c .if6 .taken))))))
+
+returns-7 : tie.Need-returns-7
+unfolding actNamed
+returns-7 c =
+    past _ _ _ (c .before .before .before .before .before .before .before .before .before .before .before .before .before .before .before .before .same .ensures) (c .before .before .before .before .before .before .before .before .before .before .before .before .before .before .before .if1 .left)
+    (past _ _ _ (c .before .before .before .before .before .before .before .before .before .before .before .before .before .same2 .ensures) (c .before .before .before .before .before .before .before .before .before .before .before .before .if2 .left)
+    (past _ _ _ (c .before .before .before .before .before .before .before .before .before .before .same3 .ensures) (c .before .before .before .before .before .before .before .before .before .if3 .left)
+    (past _ _ _ (c .before .before .before .before .before .before .before .same4 .ensures) (c .before .before .before .before .before .before .if4 .left)
+    (past _ _ _ (c .before .before .before .before .same5 .ensures) (c .before .before .before .if5 .left)
+    (past _ _ _ (c .before .same6 .ensures) (c .if6 .left)
+    (refl))))))
 
 pub act-named-spec : {M : Type 1} → statement M
 act-named-spec =
@@ -100,4 +117,7 @@ act-named-spec =
     slice-aggregate-same-5
     same-requires-5
     returns-5
-    returns-6)
+    slice-aggregate-same-6
+    same-requires-6
+    returns-6
+    returns-7)

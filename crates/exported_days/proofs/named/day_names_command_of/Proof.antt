@@ -62,6 +62,9 @@ enum-told-17 c = search needs
 enum-told-18 : tie.Need-enum-told-18
 enum-told-18 c = search needs
 
+enum-told-19 : tie.Need-enum-told-19
+enum-told-19 c = search needs
+
 returns : tie.Need-returns
 returns c = ap commandNumber (sym (c .enum-told .given .1) ∙ c .before .before .command-of .ensures)
 
@@ -116,6 +119,9 @@ returns-17 c = ap commandNumber (sym (c .enum-told17 .given .1) ∙ c .before .b
 returns-18 : tie.Need-returns-18
 returns-18 c = ap commandNumber (sym (c .enum-told18 .given .1) ∙ c .before .before .command-of .ensures)
 
+returns-19 : tie.Need-returns-19
+returns-19 c = ap commandNumber (sym (c .enum-told19 .given .1) ∙ c .before .before .command-of .ensures)
+
 pub day-names-command-of-spec : {M : Type 1} → statement M
 day-names-command-of-spec =
     tie.close
@@ -139,6 +145,7 @@ day-names-command-of-spec =
     enum-told-16
     enum-told-17
     enum-told-18
+    enum-told-19
     returns
     returns-2
     returns-3
@@ -156,4 +163,5 @@ day-names-command-of-spec =
     returns-15
     returns-16
     returns-17
-    returns-18)
+    returns-18
+    returns-19)
