@@ -36,6 +36,7 @@ const LINES: &[&str] = &[
     "series",
     "series,bits",
     "day",
+    "settles,w,w",
     "",
 ];
 

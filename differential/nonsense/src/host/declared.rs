@@ -86,6 +86,16 @@ pub struct Read {
     pub depth: u32,
 }
 
+#[repr(C)]
+#[derive(Clone, Copy, Debug, Default, PartialEq, Eq)]
+pub struct Settling {
+    pub refusal: u64,
+    pub settles: u64,
+    pub rounds: u64,
+    pub walks: u64,
+    pub width: u64,
+}
+
 extern "C" {
     pub fn latchmeander_room() -> usize;
     pub fn latchmeander_fresh(storage: *mut u64, storage_len: usize) -> u64;
@@ -138,6 +148,22 @@ extern "C" {
         commits: *mut u32,
         commits_len: usize,
     ) -> Planned;
+    pub fn latchmeander_settles(
+        settings: Settings,
+        ask: Ask,
+        roofline: *const f64,
+        roofline_len: usize,
+        depths: *const u32,
+        depths_len: usize,
+        batches: *const u32,
+        batches_len: usize,
+        seconds: *const f64,
+        seconds_len: usize,
+        width: u32,
+        target: u32,
+        widths: *mut u32,
+        widths_len: usize,
+    ) -> Settling;
     pub fn latchmeander_drafter_seconds(
         settings: Settings,
         rates: Rates,

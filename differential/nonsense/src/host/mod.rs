@@ -8,6 +8,7 @@ pub mod plans;
 mod seconds;
 mod series;
 pub mod settings;
+mod settling;
 mod small;
 mod stirred;
 pub mod storage;
@@ -26,6 +27,7 @@ pub fn functions() -> Vec<Box<dyn Function>> {
         banks::functions(),
         tables::functions(),
         plans::functions(),
+        settling::functions(),
     ];
     all.into_iter().flatten().collect()
 }

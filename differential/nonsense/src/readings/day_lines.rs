@@ -14,7 +14,7 @@ pub fn field_of(line: &[u8], place: usize) -> &[u8] {
 }
 
 /// The names of the commands, in the order of their numbers; `series,bits` is apart from them.
-pub const COMMANDS: [(&str, u64); 15] = [
+pub const COMMANDS: [(&str, u64); 16] = [
     ("gamma", 1),
     ("policy", 2),
     ("acceptance", 3),
@@ -30,10 +30,11 @@ pub const COMMANDS: [(&str, u64); 15] = [
     ("withdraw", 13),
     ("series", 14),
     ("day", 16),
+    ("settles", 17),
 ];
 pub const NOTHING: u64 = 0;
 pub const SERIES_BITS: u64 = 15;
-pub const NO_COMMAND: u64 = 17;
+pub const NO_COMMAND: u64 = 18;
 
 pub const POLICIES: [&str; 4] = ["fixed", "goodput_budget", "gated_budget", "gated_aggregate"];
 pub const ACCEPTANCES: [&str; 3] = ["constant", "per_position", "trace"];
@@ -119,6 +120,8 @@ mod tests {
         assert_eq!(command(b"series, bits,x"), SERIES_BITS);
         assert_eq!(command(b"series,bit"), 14);
         assert_eq!(command(b"prices,bridged"), 10);
+        assert_eq!(command(b" settles,6,0"), 17);
+        assert_eq!(command(b"settle,6,0"), NO_COMMAND);
         assert_eq!(command(b","), NO_COMMAND);
         assert_eq!(named(&POLICIES, b"gated_budget"), 2);
         assert_eq!(named(&POLICIES, b"gated"), 4);

@@ -3,6 +3,7 @@
 pub mod clock;
 pub mod day_lines;
 pub mod floats;
+pub mod settling;
 pub mod shapes;
 pub mod texts;
 pub mod walks;

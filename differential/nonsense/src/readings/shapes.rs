@@ -79,7 +79,7 @@ fn shape(line: &[u8]) -> Result<&'static str, Wrong> {
         8 | 15 => "tt",
         10 => "tm",
         11 => "twwdw*",
-        12 => "tww",
+        12 | 17 => "tww",
         13 | 14 | 16 => "t",
         _ => return unnamed(0, 8),
     })
@@ -120,5 +120,9 @@ mod tests {
         assert_eq!(of("plan,1,2,3.5,4,what,ever"), (0, 0));
         assert_eq!(of("plan,1,2,3.5"), (4, 1));
         assert_eq!(of("plans"), (0, 8));
+        assert_eq!(of("settles,6, 0"), (0, 0));
+        assert_eq!(of("settles,6"), (2, 1));
+        assert_eq!(of("settles,6,none"), (2, 5));
+        assert_eq!(of("settles,6,0,1"), (3, 2));
     }
 }
