@@ -30,6 +30,8 @@ mod storage;
 #[cfg(feature = "rust")]
 mod tables;
 #[cfg(feature = "rust")]
+mod ways;
+#[cfg(feature = "rust")]
 mod whole;
 
 use report::Report;
@@ -53,4 +55,5 @@ fn against_the_files(report: &mut Report) {
     modes::both(report);
     ledger::ledger(report);
     whole::whole(report);
+    ways::ways(report);
 }

@@ -68,7 +68,7 @@ fn source_of(rows: usize) -> Source
     }
 }
 
-fn settings_of(
+pub fn settings_of(
     gamma: u32,
     model: u32,
     alpha: f64,
@@ -93,7 +93,7 @@ fn settings_of(
 }
 
 // A plan of worker (0, worker).
-fn ask_of(
+pub fn ask_of(
     worker: u64,
     sequences: u32,
     end: f64,
