@@ -1,5 +1,5 @@
 -- Tests one after the other: each law is one way out. Assumes nothing.
-use mathlib.Core.Path.{_≡_}
+use mathlib.Core.Path.{_≡_, refl}
 use mathlib.Core.Bool.{Bool, true, false, _&&_, cond}
 use Prim.Native.Nat.{ℕ, _+_, _*_, _≤_, _<_}
 use native.Mathlib.Nat.{mul-le-mul}
@@ -42,3 +42,8 @@ refuses r a e h = ne-eqb a 0 (λ z. omega arith)
 
 pub none : (r a : ℕ) → r ≡ a → r ≤ 0 → a ≡ 0
 none r a e h = omega arith
+
+-- a test passes where its refusal is not given
+pub passes : (t : Bool) (n : ℕ) → 0 < n → cond t 0 n ≡ 0 → t ≡ true
+passes true n h e = refl
+passes false n h e = absurd (let w : ⊥ = omega arith in w)

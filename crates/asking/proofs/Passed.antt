@@ -12,7 +12,7 @@ use Rattle.refusals.proofs.First.{first-zero}
 use Rattle.laws.proofs.Both.{both}
 use Rattle.float.proofs.Classes.{clash}
 use Rattle.acceptance.specs.declared.AcceptanceModel.{AcceptanceModel}
-use Rattle.acceptance.specs.declared.AcceptanceModel.the-variants.{Constant, PerPosition, Trace}
+use Rattle.acceptance.specs.declared.AcceptanceModel.the-variants.{Trace}
 use Rattle.speculative.specs.Drafter.{ratesRefusal, loadedRefusal}
 use Rattle.speculative.specs.declared.drafter.DrafterCost.{DrafterCost}
 use Rattle.speculative.specs.declared.drafter.DrafterCost.the-variants.{Fraction, Autoregressive, BlockParallel}
@@ -28,7 +28,7 @@ use Rattle.ledger_workers.specs.Workers.{pastOf}
 use Rattle.settings.specs.declared.Policy.{Policy}
 use Rattle.settings.specs.declared.Policy.the-variants.{Fixed, GoodputBudget, GatedBudget, GatedAggregate}
 use Rattle.settings.specs.declared.Settings.{Settings}
-use Rattle.settings.specs.Settings.{cappedBy, gammaUnder, gammaIn, usesCosts, usesSignals}
+use Rattle.settings.specs.Settings.{gammaUnder, gammaIn, usesCosts, usesSignals}
 use Rattle.asked_rooms.specs.declared.Ask.{Ask}
 use Rattle.asked_rooms.specs.declared.Lengths.{Lengths}
 use Rattle.asked_rooms.specs.Sizes.{bankFits, tableFits, sizesRefusal}
@@ -36,12 +36,8 @@ use Rattle.asked_rooms.specs.Rooms.{ownRooms, priceRooms, loadedRoom, costRooms
 use Rattle.asking.specs.Values.{pricesValued, loadedValued, curveValued, heldOf, policyValued}
 use Rattle.asking.specs.Asked.{Lent, tableOf, lengthsOf, costsValued, valuesRefusal, askedRefusal}
 use Rattle.asked_values.specs.Columns.{columnsFit}
-use Rattle.asked_rooms.proofs.Tests.{used}
-
--- ---- what a refusal of 0 says
-passes : (t : Bool) (n : ℕ) → 0 < n → cond t 0 n ≡ 0 → t ≡ true
-passes true n h e = refl
-passes false n h e = absurd (let w : ⊥ = omega arith in w)
+use Rattle.settings.proofs.Cases.{capped-le}
+use Rattle.asked_rooms.proofs.Tests.{used, passes}
 
 -- a test of a case that is known
 at-case : {A : Type 0} (f : A → Bool) (x y : A) → x ≡ y → f x ≡ true → f y ≡ true
@@ -52,11 +48,6 @@ has-entry : (gamma n : ℕ) → leb (gamma + 1) n ≡ true → gamma < n
 has-entry gamma n h = let k = leb-true (gamma + 1) n h in omega arith
 
 -- ---- the depth that a plan may draft to
-capped-le : (m : AcceptanceModel) (gamma depth : ℕ) → cappedBy m gamma depth ≤ gamma
-capped-le (Constant alpha) gamma depth = omega arith
-capped-le PerPosition gamma depth = omega arith
-capped-le Trace gamma depth = omega arith
-
 pub under-le : (p : Policy) (m : AcceptanceModel) (gamma depth : ℕ) → gammaUnder p m gamma depth ≤ gamma
 under-le Fixed m gamma depth = omega arith
 under-le GoodputBudget m gamma depth = capped-le m gamma depth

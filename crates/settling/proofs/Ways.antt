@@ -13,8 +13,6 @@ use Rattle.laws.proofs.Both.{both}
 use Rattle.float.specs.Floats.{f0}
 use Rattle.refusals.specs.Refusals.{firstOf}
 use Rattle.refusals.proofs.First.{first-zero}
-use Rattle.acceptance.specs.declared.AcceptanceModel.{AcceptanceModel}
-use Rattle.acceptance.specs.declared.AcceptanceModel.the-variants.{Constant, PerPosition, Trace}
 use Rattle.cost_rows.specs.Table.{Row}
 use Rattle.cost_rows.specs.Order.{ordered}
 use Rattle.cost_rows.specs.Lawful.{allInRange, lawful}
@@ -27,11 +25,12 @@ use Rattle.switching.specs.Deciding.{candidateSlots, mostWidth}
 use Rattle.switching.specs.declared.inner.Candidates.{Candidates}
 use Rattle.switching.proofs.Slots.{slots-front, slots-len}
 use Rattle.switching.proofs.Widths.{candidates-rise}
-use Rattle.settings.specs.Settings.{cappedBy}
 use Rattle.settings.specs.declared.Settings.{Settings}
 use Rattle.asked_rooms.specs.declared.Ask.{Ask}
 use Rattle.asked_rooms.specs.Sizes.{bankFits, tableFits, sizesRefusal}
 use Rattle.asked_rooms.specs.Rooms.{priceRooms}
+use Rattle.settings.proofs.Cases.{capped-le}
+use Rattle.asked_rooms.proofs.Tests.{passes}
 use Rattle.asked_values.specs.Columns.{columnsFit}
 use Rattle.asked_values.specs.Values.{pricesValued}
 use Rattle.width_way.specs.Way.{settled}
@@ -62,16 +61,6 @@ module _ (x y x′ y′ : ℕ) (p q : Bool) (e : x ≡ x′) (f : y ≡ y′) (h
 
   pub values-judged : (b : Bool) → p ≡ true → q ≡ b → cond b 0 15 ≡ firstOf x′ (firstOf y′ (firstOf (cond p 0 16) (cond q 0 15)))
   values-judged b n m = rw (zeros .0, zeros .1, n, m)
-
--- ---- a test that passed
-passes : (t : Bool) (n : ℕ) → 0 < n → cond t 0 n ≡ 0 → t ≡ true
-passes true n h e = refl
-passes false n h e = absurd (let w : ⊥ = omega arith in w)
-
-capped-le : (m : AcceptanceModel) (gamma depth : ℕ) → cappedBy m gamma depth ≤ gamma
-capped-le (Constant alpha) gamma depth = omega arith
-capped-le PerPosition gamma depth = omega arith
-capped-le Trace gamma depth = omega arith
 
 -- ---- of the sizes
 module _ (s : Settings) (a : Ask) (e : sizesRefusal (s .model) (s .gamma) 0 (a .depth) 0 (a .source) (a .rows) ≡ 0) where

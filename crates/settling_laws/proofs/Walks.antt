@@ -1,19 +1,19 @@
 -- One walk after the other to a target that is a candidate: each comes nearer by the step, and the m of the rules are enough. Assumes nothing.
 use mathlib.Core.Path.{_≡_, refl, sym, ap, _∙_, subst}
 use mathlib.Core.Bool.{Bool, true, false, cond}
-use mathlib.Core.List.{List, [], _∷_}
+use mathlib.Core.List.{List}
 use Prim.Native.Nat.{ℕ, zero, suc, _+_, _-_, _*_, _/_, _≤_, _<_, min, max}
 use native.Mathlib.Nat.{suc-mul, one-mul, mod-lt, div-add-mod', mul-le-mul-right}
 use native.Mathlib.Omega.{arith}
-use borrow.Author.Tests.{ltb-true, ltb-false, eqb-true, eqb-false}
-use lib.Dec.{ltb, eqb}
+use borrow.Author.Tests.{ltb-true, ltb-false, eqb-false}
+use lib.Dec.{ltb}
 use lib.ListN.{length, getD}
-use Rattle.laws.proofs.Both.{both}
 use Rattle.switch_settings.specs.declared.MaxStep.{MaxStep}
 use Rattle.switch_settings.specs.declared.MaxStep.the-variants.{Unlimited, AtMost}
 use Rattle.width_walk.specs.Walk.{firstAtLeast, snapIndex, walkIndex, walkCandidates, Rising}
 use Rattle.width_walk.proofs.Walking.{walk-within}
 use Rattle.width_walk.proofs.Found.{snap-there}
+use Rattle.width_way.proofs.Following.{candidate-there, walks-to}
 use Rattle.width_way.specs.Way.{isCandidate, standsStill, distance, awayFrom, walksFor}
 
 -- ---- in indices
@@ -86,12 +86,6 @@ some-walk Unlimited away = omega arith
 some-walk (AtMost d) away = omega arith
 
 -- ---- among candidates that rise, of which the target is one
-stands-in : (l : List ℕ) (target : ℕ) → isCandidate l target ≡ true → (firstAtLeast l target < length l) × (getD l (firstAtLeast l target) 0 ≡ target)
-stands-in l target here =
-    let i = firstAtLeast l target in
-    let b = both (ltb i (length l)) (eqb (getD l i 0) target) here in
-    (ltb-true i (length l) (b .0), eqb-true (getD l i 0) target (b .1))
-
 module _ (step : MaxStep) (l : List ℕ) (rising : Rising 0 l) (target : ℕ) (here : isCandidate l target ≡ true) where
   abbrev to : ℕ
   to = firstAtLeast l target
@@ -100,27 +94,19 @@ module _ (step : MaxStep) (l : List ℕ) (rising : Rising 0 l) (target : ℕ) (h
   walk width = walkCandidates l width target step
 
   stands : (to < length l) × (getD l to 0 ≡ target)
-  stands = stands-in l target here
-
-  snapped : (j : ℕ) → j < length l → snapIndex l (getD l j 0) ≡ j
-  snapped j h = snap-there l j rising h
+  stands = candidate-there l target here
 
   home : snapIndex l target ≡ to
-  home = ap (snapIndex l) (sym (stands .1)) ∙ snapped to (stands .0)
+  home = ap (snapIndex l) (sym (stands .1)) ∙ snap-there l to rising (stands .0)
 
   walks : (width : ℕ) → walk width ≡ getD l (walkIndex (snapIndex l width) to step) 0
-  walks width = go l here
-    where
-      go : (l : List ℕ) → isCandidate l target ≡ true → walkCandidates l width target step ≡ getD l (walkIndex (snapIndex l width) (firstAtLeast l target) step) 0
-      go [] h = absurd (let z = stands-in [] target h .0 in omega arith)
-      go (c ∷ cs) h =
-          ap (λ (b : Bool). getD (c ∷ cs) (walkIndex (snapIndex (c ∷ cs) width) (cond b (firstAtLeast (c ∷ cs) target) (snapIndex (c ∷ cs) width)) step) 0) h
+  walks width = walks-to step l target width here
 
   stands-at : (width : ℕ) → snapIndex l (walk width) ≡ walkIndex (snapIndex l width) to step
   stands-at width =
       let inside = stands .0 in
       let s : snapIndex l width < length l = omega arith in
-      ap (snapIndex l) (walks width) ∙ snapped (walkIndex (snapIndex l width) to step) (walk-within (snapIndex l width) to (length l) step s inside)
+      ap (snapIndex l) (walks width) ∙ snap-there l (walkIndex (snapIndex l width) to step) rising (walk-within (snapIndex l width) to (length l) step s inside)
 
   arrived : (width : ℕ) → Near step 1 (snapIndex l width) to → walk width ≡ target
   arrived width h = walks width ∙ ap (λ (j : ℕ). getD l j 0) (at-last step (snapIndex l width) to h) ∙ stands .1

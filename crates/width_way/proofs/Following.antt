@@ -1,16 +1,19 @@
 -- The loop that writes the widths after each walk to the front of a buffer: what it keeps, its start, a turn and its end; and that its way by indices is the
 -- rules' way from width to width. Assumes nothing.
 use mathlib.Core.Path.{_≡_, refl, sym, _∙_, ap}
-use mathlib.Core.Bool.{true}
+use mathlib.Core.Bool.{Bool, true, cond}
 use mathlib.Core.List.{List, [], _∷_, _++_, append-assoc, append-nil}
 use Prim.Native.Nat.{ℕ, zero, suc, _+_, _-_, _≤_, _<_}
 use native.Mathlib.Numerals.{add-one}
 use native.Mathlib.Nat.{not-suc-le-zero}
 use native.Mathlib.Omega.{arith}
+use borrow.Author.Tests.{ltb-true, eqb-true}
+use lib.Dec.{ltb, eqb}
 use lib.ListN.{length, take, drop, set, getD, length-set, take-append-drop}
 use lib.Seq.{take-suc-set, drop-set-lt, drop-drop}
+use Rattle.laws.proofs.Both.{both}
 use Rattle.switch_settings.specs.declared.MaxStep.{MaxStep}
-use Rattle.width_walk.specs.Walk.{firstAtLeast, snapIndex, targetIndex, walkIndex, walkCandidates, Rising}
+use Rattle.width_walk.specs.Walk.{firstAtLeast, snapIndex, walkIndex, walkCandidates, Rising}
 use Rattle.width_walk.proofs.Walking.{walk-within}
 use Rattle.width_walk.proofs.Found.{snap-there}
 use Rattle.width_way.specs.Way.{isCandidate, way}
@@ -60,23 +63,28 @@ module _ (step : MaxStep) (candidates : List ℕ) (to at walks : ℕ) (old : Lis
       let behind : drop k buf ≡ drop walks old = inv .rest ∙ ap (λ (i : ℕ). drop i old) all in
       sym (take-append-drop k buf) ∙ rw (front, behind)
 
--- ---- among candidates that rise, of which the target is one
-aimed : (l : List ℕ) (target snap : ℕ) → isCandidate l target ≡ true → targetIndex l target snap ≡ firstAtLeast l target
-aimed l target snap here = rw here
+-- ---- among candidates of which the target is one: its index lies among them, and a walk goes toward it
+pub candidate-there : (l : List ℕ) (target : ℕ) → isCandidate l target ≡ true → (firstAtLeast l target < length l) × (getD l (firstAtLeast l target) 0 ≡ target)
+candidate-there l target here =
+    let i = firstAtLeast l target in
+    let b = both (ltb i (length l)) (eqb (getD l i 0) target) here in
+    (ltb-true i (length l) (b .0), eqb-true (getD l i 0) target (b .1))
 
-walks-to : (step : MaxStep) (l : List ℕ) (target width : ℕ) → isCandidate l target ≡ true → 0 < length l
+pub walks-to : (step : MaxStep) (l : List ℕ) (target width : ℕ) → isCandidate l target ≡ true
     → walkCandidates l width target step ≡ getD l (walkIndex (snapIndex l width) (firstAtLeast l target) step) 0
-walks-to step [] target width here h = absurd (not-suc-le-zero h)
-walks-to step (c ∷ cs) target width here h =
-    ap (λ (j : ℕ). getD (c ∷ cs) (walkIndex (snapIndex (c ∷ cs) width) j step) 0) (aimed (c ∷ cs) target (snapIndex (c ∷ cs) width) here)
+walks-to step [] target width here = absurd (not-suc-le-zero (candidate-there [] target here .0))
+walks-to step (c ∷ cs) target width here =
+    ap (λ (b : Bool). getD (c ∷ cs) (walkIndex (snapIndex (c ∷ cs) width) (cond b (firstAtLeast (c ∷ cs) target) (snapIndex (c ∷ cs) width)) step) 0) here
 
-pub by-index : (step : MaxStep) (l : List ℕ) (target width n : ℕ) → Rising 0 l → isCandidate l target ≡ true → firstAtLeast l target < length l
+-- where they rise, the index after a walk is that of the width
+pub by-index : (step : MaxStep) (l : List ℕ) (target width n : ℕ) → Rising 0 l → isCandidate l target ≡ true
     → way step l target width n ≡ wayFrom step l (firstAtLeast l target) (snapIndex l width) n
 unfolding way wayFrom
-by-index step l target width zero rising here h = refl
-by-index step l target width (suc n) rising here h =
+by-index step l target width zero rising here = refl
+by-index step l target width (suc n) rising here =
+    let h = candidate-there l target here .0 in
     let next = walkIndex (snapIndex l width) (firstAtLeast l target) step in
     let inside : next < length l = walk-within (snapIndex l width) (firstAtLeast l target) (length l) step (omega arith) h in
-    let one = walks-to step l target width here (omega arith) in
-    let rest = by-index step l target (getD l next 0) n rising here h in
-    rw one (ap (λ (t : List ℕ). getD l next 0 ∷ t) (rest ∙ ap (λ (j : ℕ). wayFrom step l (firstAtLeast l target) j n) (snap-there l next rising inside)))
+    let rest = by-index step l target (getD l next 0) n rising here in
+    rw (walks-to step l target width here)
+    (ap (λ (t : List ℕ). getD l next 0 ∷ t) (rest ∙ ap (λ (j : ℕ). wayFrom step l (firstAtLeast l target) j n) (snap-there l next rising inside)))

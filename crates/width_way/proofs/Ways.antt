@@ -4,11 +4,10 @@ use mathlib.Core.Bool.{Bool, true, false}
 use mathlib.Core.List.{List, _++_}
 use Prim.Native.Nat.{ℕ, zero, suc, _+_, _-_, _*_, _/_, _≤_, _<_}
 use native.Mathlib.Omega.{arith}
-use borrow.Author.Tests.{lt-ltb, le-ltb, ltb-true, leb-true, leb-false}
-use lib.Dec.{ltb, leb, eqb}
+use borrow.Author.Tests.{lt-ltb, le-ltb, leb-true, leb-false}
+use lib.Dec.{leb, eqb}
 use lib.ListN.{length, getD, drop}
 use native.Mathlib.Nat.{div-add-mod', mul-le-mul-right}
-use Rattle.laws.proofs.Both.{both}
 use Rattle.float.proofs.Classes.{clash}
 use Rattle.switch_settings.specs.Switch.{isUnconstrained}
 use Rattle.switch_settings.specs.declared.MaxStep.{MaxStep}
@@ -28,10 +27,6 @@ module _ (l : List ℕ) (target i : ℕ) (e : i ≡ firstAtLeast l target) where
 
   pub candidate-past : length l ≤ i → false ≡ isCandidate l target
   candidate-past h = simp (sym e, le-ltb i (length l) h)
-
--- its index lies among them
-pub candidate-within : (l : List ℕ) (target : ℕ) → isCandidate l target ≡ true → firstAtLeast l target < length l
-candidate-within l target h = ltb-true (firstAtLeast l target) (length l) (both (ltb (firstAtLeast l target) (length l)) (eqb (getD l (firstAtLeast l target) 0) target) h .0)
 
 -- ---- a step that goes nowhere, and one that goes somewhere
 pub still-tested : (step : MaxStep) (d : ℕ) (b : Bool) → step ≡ AtMost d → b ≡ eqb d 0 → b ≡ standsStill step
@@ -72,7 +67,7 @@ module _ (l : List ℕ) (width target : ℕ) (c : SwitchConstraints) (ws : List 
   arrived at to m r out rising here e f a b o =
       let n : m ≡ walksFor (c .«max_step») (awayFrom l width target) = a ∙ rw (e, f) in
       let w : out ≡ way (c .«max_step») l target width m ++ drop m ws =
-      o ∙ rw (e, f, ← by-index (c .«max_step») l target width m rising here (candidate-within l target here)) in
+      o ∙ rw (e, f, ← by-index (c .«max_step») l target width m rising here) in
       rw (w, b, n)
 
   pub at-once : isUnconstrained c ≡ true → _≡_ {A = Settling × List ℕ} (AtOnce, ws) (settled l width target c ws)

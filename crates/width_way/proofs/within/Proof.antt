@@ -1,14 +1,15 @@
 -- `within` meets its contract. Assumes nothing.
 use native.Mathlib.Omega.{arith}
 use denote.Ref.{now}
-use Rattle.width_way.proofs.Ways.{candidate-within, arrived, rounds-fit}
+use Rattle.width_way.proofs.Following.{candidate-there}
+use Rattle.width_way.proofs.Ways.{arrived, rounds-fit}
 use borrow.Author.Needs.{needs}
 use Rattle.width_way.proofs.within.Statement.{statement}
 use Rattle.width_way.proofs.within.Tie as tie
 
 snap-index-requires : tie.Need-snap-index-requires
 snap-index-requires c κs =
-    let h = candidate-within (now (c .before .before .args .candidates)) (c .before .before .args .target) (c .before .before .pre .1 .0) in
+    let h = candidate-there (now (c .before .before .args .candidates)) (c .before .before .args .target) (c .before .before .pre .1 .0) .0 in
     omega (arith, h)
 
 first-at-least-requires : tie.Need-first-at-least-requires
@@ -16,7 +17,7 @@ first-at-least-requires c κs = search needs
 
 walks-requires : tie.Need-walks-requires
 walks-requires c κs =
-    let h = candidate-within (now (c .before .before .before .before .args .candidates)) (c .before .before .before .before .args .target) (c .before .before .before .before .pre .1 .0) in
+    let h = candidate-there (now (c .before .before .before .before .args .candidates)) (c .before .before .before .before .args .target) (c .before .before .before .before .pre .1 .0) .0 in
     let few = c .before .before .before .before .pre .0 .few in
     ((omega (arith, few, c .before .snap-index .ensures .1), omega (arith, few, h, c .first-at-least .ensures .0)), c .before .before .before .before .pre .1 .1)
 
@@ -25,7 +26,7 @@ cast-follow c = search needs
 
 follow-requires : tie.Need-follow-requires
 follow-requires c κs =
-    let h = candidate-within (now (c .before .before .before .before .before .before .args .candidates)) (c .before .before .before .before .before .before .args .target) (c .before .before .before .before .before .before .pre .1 .0) in
+    let h = candidate-there (now (c .before .before .before .before .before .before .args .candidates)) (c .before .before .before .before .before .before .args .target) (c .before .before .before .before .before .before .pre .1 .0) .0 in
     let roomy = c .before .before .before .before .before .before .pre .0 .roomy in
     ((c .before .before .before .snap-index .ensures .1, omega (arith, h, c .before .before .first-at-least .ensures .0)), omega (arith, roomy, c .before .walks .ensures .1))
 
