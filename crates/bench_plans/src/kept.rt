@@ -2,6 +2,7 @@
 use ledger::answer::Answer;
 use ledger::answer::Count;
 use ledger::answer::Decision;
+use ledger_rows::layout::Step;
 ghost use mathlib.Core.Path.{_≡_};
 ghost use Rattle.ledger.specs.Calls.{emptied, recorded, seriesRead};
 ghost use Rattle.ledger.specs.declared.answer.Decision.the-variants.{Nothing};
@@ -30,10 +31,15 @@ pub extern "C" fn bench_fresh(storage: &mut [u64]) -> u64
 // A plan of no worker is counted; the number of the refusal, 0 for none.
 #[no_mangle]
 pub extern "C" fn bench_record(storage: &mut [u64], second: u64, drafts: u64, sequences: u64) -> u64
-    ensures { λ r. ⌜ r ≡ ledgerNumber (recorded (now (storage .entry)) second drafts sequences Nothing .0) ⌝ }
-    ensures { λ r. ⌜ now (storage .exit) ≡ recorded (now (storage .entry)) second drafts sequences Nothing .1 ⌝ }
+    ensures { λ r. ⌜ r ≡ ledgerNumber (recorded (now (storage .entry)) (record { second = second; drafts = drafts; sequences = sequences }) Nothing .0) ⌝ }
+    ensures { λ r. ⌜ now (storage .exit) ≡ recorded (now (storage .entry)) (record { second = second; drafts = drafts; sequences = sequences }) Nothing .1 ⌝ }
 {
-    let answer = ledger::record(storage, second, drafts, sequences, Decision::Nothing);
+    let step = Step {
+        second,
+        drafts,
+        sequences,
+    };
+    let answer = ledger::record(storage, step, Decision::Nothing);
     ledger_number(answer)
 }
 

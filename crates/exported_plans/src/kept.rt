@@ -1,6 +1,7 @@
 // The planner's storage: what a plan is refused for, and a plan counted.
 use host::answers;
 use ledger::answer::Decision;
+use ledger_rows::layout::Step;
 ghost use mathlib.Core.Path.{_≡_};
 ghost use Rattle.ledger.specs.Calls.{stepJudged, workerJudged, recorded};
 ghost use Rattle.host.specs.Answers.{answerOf};
@@ -53,9 +54,14 @@ pub extern "C" fn ledger_record(
     rounds: u64,
     stall: u64,
 ) -> u64
-    ensures { λ r. ⌜ (r, now (storage .exit)) ≡ onFirst answerOf (recorded (now (storage .entry)) second drafts sequences (changeOf puts a b width rounds stall)) ⌝ }
+    ensures { λ r. ⌜ (r, now (storage .exit)) ≡ onFirst answerOf (recorded (now (storage .entry)) (record { second = second; drafts = drafts; sequences = sequences }) (changeOf puts a b width rounds stall)) ⌝ }
 {
     let change = change_of(puts, a, b, width, rounds, stall);
-    let answer = ledger::record(storage, second, drafts, sequences, change);
+    let step = Step {
+        second,
+        drafts,
+        sequences,
+    };
+    let answer = ledger::record(storage, step, change);
     answers::of_answer(answer)
 }

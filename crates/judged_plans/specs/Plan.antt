@@ -14,9 +14,10 @@ use Rattle.rounds.specs.declared.drawing.Drawn.{Drawn}
 use Rattle.rounds.specs.declared.drawing.Drawn.the-variants.{Used, Refused as NotDrawn}
 use Rattle.asked_rooms.specs.declared.Ask.{Ask}
 use Rattle.asking.specs.Asked.{Lent, askedRefusal}
-use Rattle.deciding.specs.Deciding.{Decided, decidedBy, totalOf}
+use Rattle.deciding.specs.Deciding.{Decided, decidedBy}
 use Rattle.plan_draws.specs.Draws.{drawn, drawnRefusal}
 use Rattle.planning.specs.Steps.{curveOf, signalsRefusal, best, isPut}
+use Rattle.planning.specs.Acting.{stepOf}
 use Rattle.judged_plans.specs.declared.Planned.{Planned}
 use Rattle.judged_plans.specs.declared.Planned.the-variants.{Plan, Empty, Refused}
 
@@ -42,7 +43,7 @@ module _ (s : Settings) (a : Ask) (l : Lent) (ws ds cs : List ℕ) where
   made (NotDrawn number) d = record { answer = Refused number; storage = ws; drafts = ds; commits = cs }
   made (Used used) d = record {
     answer = Plan used (d .weighed);
-    storage = recorded ws (secondOf (a .end)) (totalOf (d .drafts)) (a .sequences) (d .change) .1;
+    storage = recorded ws (stepOf a (d .drafts)) (d .change) .1;
     drafts = d .drafts ++ drop (a .sequences) ds;
     commits = drawn s a l .commits ++ drop (a .sequences) cs;
   }

@@ -11,6 +11,7 @@ use lib.ListN.{length, getD, set, drop, replicate, length-replicate, replicate-a
 use lib.Seq.{drop-cons, set-at, append-snoc}
 use Rattle.ledger_rows.proofs.Tests.{by-test}
 use Rattle.ledger_rows.specs.declared.layout.Past.{Past}
+use Rattle.ledger_rows.specs.declared.layout.Step.{Step}
 use Rattle.ledger.specs.declared.answer.Answer.{Answer}
 use Rattle.ledger.specs.declared.answer.Answer.the-variants.{Done, Refused}
 use Rattle.ledger.specs.declared.answer.Count.the-variants.{Is, Refused as Refused·count}
@@ -151,12 +152,12 @@ module _ (ws : List ℕ) where
 
 -- ---- a plan, by what it makes of a worker's record
 
-module _ (ws : List ℕ) (t drafts sequences : ℕ) (change : Decision) (x : Answer × List ℕ) where
-  pub recorded-plain : change ≡ Nothing → x ≡ unless (stepJudged ws t) ws (plainDone ws t drafts sequences) → x ≡ recorded ws t drafts sequences change
+module _ (ws : List ℕ) (step : Step) (change : Decision) (x : Answer × List ℕ) where
+  pub recorded-plain : change ≡ Nothing → x ≡ unless (stepJudged ws (step .second)) ws (plainDone ws step) → x ≡ recorded ws step change
   unfolding recorded
   recorded-plain e h = rw e h
 
   pub recorded-put : (a b width rounds stall : ℕ) → change ≡ Put a b width rounds stall
-      → x ≡ unless (orElse (workerJudged ws a b) (stepJudged ws t)) ws (decidedDone ws t drafts sequences a b width rounds stall (pastOf ws a b)) → x ≡ recorded ws t drafts sequences change
+      → x ≡ unless (orElse (workerJudged ws a b) (stepJudged ws (step .second))) ws (decidedDone ws step a b width rounds stall (pastOf ws a b)) → x ≡ recorded ws step change
   unfolding recorded
   recorded-put a b width rounds stall e h = rw e h

@@ -6,6 +6,7 @@ use lib.Dec.{ltb, eqb}
 use lib.Ieee.{Float, binary64, ofBits}
 use lib.ListN.{length, drop, replicate}
 use Rattle.ledger_rows.specs.declared.layout.Past.{Past}
+use Rattle.ledger_rows.specs.declared.layout.Step.{Step}
 use Rattle.ledger.specs.declared.answer.Answer.{Answer}
 use Rattle.ledger.specs.declared.answer.Answer.the-variants.{Done, Refused}
 use Rattle.ledger.specs.declared.answer.Count.{Count}
@@ -43,10 +44,10 @@ unless refusal ws after = cond (eqb refusal 0) (Done, after) (Refused refusal, w
 
 -- ---- a plan
 
-unfoldable pub recorded : List ℕ → ℕ → ℕ → ℕ → Decision → Answer × List ℕ
-recorded ws t drafts sequences Nothing = unless (stepJudged ws t) ws (plainDone ws t drafts sequences)
-recorded ws t drafts sequences (Put a b width rounds stall) =
-    unless (orElse (workerJudged ws a b) (stepJudged ws t)) ws (decidedDone ws t drafts sequences a b width rounds stall (pastOf ws a b))
+unfoldable pub recorded : List ℕ → Step → Decision → Answer × List ℕ
+recorded ws p Nothing = unless (stepJudged ws (p .second)) ws (plainDone ws p)
+recorded ws p (Put a b width rounds stall) =
+    unless (orElse (workerJudged ws a b) (stepJudged ws (p .second))) ws (decidedDone ws p a b width rounds stall (pastOf ws a b))
 
 -- ---- a collection: a known worker's stall, cleared
 

@@ -8,6 +8,7 @@ use crate::answer::Figure;
 use crate::answer::Found;
 use crate::answer::Stall;
 use ledger_rows::layout::ROOM;
+use ledger_rows::layout::Step;
 ghost use mathlib.Core.Path.{_≡_};
 ghost use Prim.Native.Nat.{_≤_};
 ghost use lib.ListN.{length};
@@ -54,16 +55,16 @@ pub fn judge_worker(storage: &[u64], a: u64, b: u64) -> u64
 }
 
 // A plan of no worker. Its second is searched for once, to judge and to act.
-fn record_plain(storage: &mut [u64], second: u64, drafts: u64, sequences: u64) -> Answer
-    ensures { λ r. ⌜ (r, now (storage .exit)) ≡ unless (stepJudged (now (storage .entry)) second) (now (storage .entry)) (plainDone (now (storage .entry)) second drafts sequences) ⌝ }
+fn record_plain(storage: &mut [u64], step: Step) -> Answer
+    ensures { λ r. ⌜ (r, now (storage .exit)) ≡ unless (stepJudged (now (storage .entry)) (step .second)) (now (storage .entry)) (plainDone (now (storage .entry)) step) ⌝ }
 {
     if storage.len() < ROOM {
         return Answer::Refused(16);
     }
-    let found = ledger_seconds::inner::place(storage, second);
+    let found = ledger_seconds::inner::place(storage, step.second);
     let refusal = ledger_acts::inner::place_refusal(storage, found);
     if refusal == 0 {
-        ledger_acts::inner::act_plain(storage, found, second, drafts, sequences);
+        ledger_acts::inner::act_plain(storage, found, step);
         Answer::Done
     } else {
         Answer::Refused(refusal)
@@ -73,9 +74,7 @@ fn record_plain(storage: &mut [u64], second: u64, drafts: u64, sequences: u64) -
 // A plan whose worker is not refused. Its second is searched for once, to judge and to act.
 fn record_step(
     storage: &mut [u64],
-    second: u64,
-    drafts: u64,
-    sequences: u64,
+    step: Step,
     a: u64,
     b: u64,
     width: u64,
@@ -83,23 +82,12 @@ fn record_step(
     stall: u64,
 ) -> Answer
     requires { ⌜ room ≤ length (now storage) ⌝ }
-    ensures { λ r. ⌜ (r, now (storage .exit)) ≡ unless (stepRefusal (now (storage .entry)) second) (now (storage .entry)) (decidedDone (now (storage .entry)) second drafts sequences a b width rounds stall (pastOf (now (storage .entry)) a b)) ⌝ }
+    ensures { λ r. ⌜ (r, now (storage .exit)) ≡ unless (stepRefusal (now (storage .entry)) (step .second)) (now (storage .entry)) (decidedDone (now (storage .entry)) step a b width rounds stall (pastOf (now (storage .entry)) a b)) ⌝ }
 {
-    let found = ledger_seconds::inner::place(storage, second);
+    let found = ledger_seconds::inner::place(storage, step.second);
     let refusal = ledger_acts::inner::place_refusal(storage, found);
     if refusal == 0 {
-        ledger_acts::inner::act_decided(
-            storage,
-            found,
-            second,
-            drafts,
-            sequences,
-            a,
-            b,
-            width,
-            rounds,
-            stall,
-        );
+        ledger_acts::inner::act_decided(storage, found, step, a, b, width, rounds, stall);
         Answer::Done
     } else {
         Answer::Refused(refusal)
@@ -109,30 +97,18 @@ fn record_step(
 // A plan of a worker.
 fn record_decided(
     storage: &mut [u64],
-    second: u64,
-    drafts: u64,
-    sequences: u64,
+    step: Step,
     a: u64,
     b: u64,
     width: u64,
     rounds: u64,
     stall: u64,
 ) -> Answer
-    ensures { λ r. ⌜ (r, now (storage .exit)) ≡ unless (orElse (workerJudged (now (storage .entry)) a b) (stepJudged (now (storage .entry)) second)) (now (storage .entry)) (decidedDone (now (storage .entry)) second drafts sequences a b width rounds stall (pastOf (now (storage .entry)) a b)) ⌝ }
+    ensures { λ r. ⌜ (r, now (storage .exit)) ≡ unless (orElse (workerJudged (now (storage .entry)) a b) (stepJudged (now (storage .entry)) (step .second))) (now (storage .entry)) (decidedDone (now (storage .entry)) step a b width rounds stall (pastOf (now (storage .entry)) a b)) ⌝ }
 {
     let refusal = judge_worker(storage, a, b);
     if refusal == 0 {
-        record_step(
-            storage,
-            second,
-            drafts,
-            sequences,
-            a,
-            b,
-            width,
-            rounds,
-            stall,
-        )
+        record_step(storage, step, a, b, width, rounds, stall)
     } else {
         Answer::Refused(refusal)
     }
@@ -140,34 +116,18 @@ fn record_decided(
 
 // An accepted plan: its drafts, its sequences and one step are added at its second, and its worker's record is put where it has one.
 // Refused with the first of 16, 17, 18 and 19.
-pub fn record(
-    storage: &mut [u64],
-    second: u64,
-    drafts: u64,
-    sequences: u64,
-    change: Decision,
-) -> Answer
-    ensures { λ r. ⌜ (r, now (storage .exit)) ≡ recorded (now (storage .entry)) second drafts sequences change ⌝ }
+pub fn record(storage: &mut [u64], step: Step, change: Decision) -> Answer
+    ensures { λ r. ⌜ (r, now (storage .exit)) ≡ recorded (now (storage .entry)) step change ⌝ }
 {
     match change {
-        Decision::Nothing => record_plain(storage, second, drafts, sequences),
+        Decision::Nothing => record_plain(storage, step),
         Decision::Put {
             a,
             b,
             width,
             rounds,
             stall,
-        } => record_decided(
-            storage,
-            second,
-            drafts,
-            sequences,
-            a,
-            b,
-            width,
-            rounds,
-            stall,
-        ),
+        } => record_decided(storage, step, a, b, width, rounds, stall),
     }
 }
 

@@ -8,19 +8,20 @@ use borrow.Author.Tests.{lt-ltb, le-ltb}
 use lib.ListN.{getD}
 use Rattle.ledger_rows.specs.declared.layout.Place.{Place}
 use Rattle.ledger_rows.specs.declared.layout.Past.{Past}
-use Rattle.ledger_rows.specs.Layout.{secondsMost, workersMost, stepsMost, secondAt, secondsHeld}
+use Rattle.ledger_rows.specs.declared.layout.Step.{Step}
+use Rattle.ledger_rows.specs.Layout.{secondsMost, workersMost, stepsMost, secondAt, secondsHeld, stepsIn}
 use Rattle.ledger_seconds.specs.Seconds.{secondPlace, stepAdded}
 use Rattle.ledger_seconds.proofs.Ways.{second-in, second-rows}
 use Rattle.ledger_workers.specs.Workers.{workerPlace, pastOf, workerPut}
-use Rattle.ledger_changes.specs.Changes.{ten, pushed}
+use Rattle.ledger_changes.specs.Changes.{changeLaid, noStep, pushed}
 use Rattle.ledger_acts.specs.Acts.{placeRefusal, stepRefusal, workerRefusal, plainDone, decidedDone, collectedDone}
 
 module _ (ws : List ℕ) (p : Place) where
-  pub step-fits : (n : ℕ) → p .known ≡ true → n ≡ getD ws (secondAt (p .row) + 3) 0 → n < stepsMost → 0 ≡ placeRefusal ws p
+  pub step-fits : (n : ℕ) → p .known ≡ true → n ≡ getD ws (secondAt (p .row) + stepsIn) 0 → n < stepsMost → 0 ≡ placeRefusal ws p
   unfolding placeRefusal
   step-fits n k e h = rw (k, ← e, lt-ltb n stepsMost h)
 
-  pub step-busy : (n : ℕ) → p .known ≡ true → n ≡ getD ws (secondAt (p .row) + 3) 0 → stepsMost ≤ n → 19 ≡ placeRefusal ws p
+  pub step-busy : (n : ℕ) → p .known ≡ true → n ≡ getD ws (secondAt (p .row) + stepsIn) 0 → stepsMost ≤ n → 19 ≡ placeRefusal ws p
   unfolding placeRefusal
   step-busy n k e h = rw (k, ← e, le-ltb n stepsMost h)
 
@@ -58,19 +59,18 @@ module _ (ws : List ℕ) (a b : ℕ) where
     unfolding workerRefusal
     worker-full k h = rw (← is, k, le-ltb (p .rows) workersMost h)
 
-pub plain-done : (ws : List ℕ) (t drafts sequences : ℕ) (one last : List ℕ) → one ≡ stepAdded ws t drafts sequences → last ≡ pushed one (ten t drafts sequences 1 0 0 0 0 0 0)
-    → last ≡ plainDone ws t drafts sequences
+pub plain-done : (ws : List ℕ) (step : Step) (one last : List ℕ) → one ≡ stepAdded ws step → last ≡ pushed one (changeLaid step 1 0 0 0 0 0 0) → last ≡ plainDone ws step
 unfolding plainDone
-plain-done ws t drafts sequences one last e l = rw (l, e)
+plain-done ws step one last e l = rw (l, e)
 
-pub collect-done : (ws : List ℕ) (a b width rounds stall : ℕ) (one last : List ℕ) → one ≡ workerPut ws a b width rounds 0 → last ≡ pushed one (ten 0 0 0 0 2 a b width rounds stall)
+pub collect-done : (ws : List ℕ) (a b width rounds stall : ℕ) (one last : List ℕ) → one ≡ workerPut ws a b width rounds 0 → last ≡ pushed one (changeLaid noStep 0 2 a b width rounds stall)
     → last ≡ collectedDone ws a b (record { kind = 2; width = width; rounds = rounds; stall = stall })
 unfolding collectedDone
 collect-done ws a b width rounds stall one last e l = rw (l, e)
 
-pub decided-done : (ws : List ℕ) (t drafts sequences a b width rounds stall : ℕ) (p : Past) (one two last : List ℕ)
-    → p ≡ pastOf ws a b → one ≡ stepAdded ws t drafts sequences → two ≡ workerPut one a b width rounds stall
-    → last ≡ pushed two (ten t drafts sequences 1 (p .kind) a b (p .width) (p .rounds) (p .stall))
-    → last ≡ decidedDone ws t drafts sequences a b width rounds stall (pastOf ws a b)
+pub decided-done : (ws : List ℕ) (step : Step) (a b width rounds stall : ℕ) (p : Past) (one two last : List ℕ)
+    → p ≡ pastOf ws a b → one ≡ stepAdded ws step → two ≡ workerPut one a b width rounds stall
+    → last ≡ pushed two (changeLaid step 1 (p .kind) a b (p .width) (p .rounds) (p .stall))
+    → last ≡ decidedDone ws step a b width rounds stall (pastOf ws a b)
 unfolding decidedDone
-decided-done ws t drafts sequences a b width rounds stall p one two last e f g l = rw (l, g, f, ← e)
+decided-done ws step a b width rounds stall p one two last e f g l = rw (l, g, f, ← e)

@@ -6,16 +6,17 @@ use lib.Dec.{ltb}
 use lib.ListN.{getD}
 use Rattle.ledger_rows.specs.declared.layout.Place.{Place}
 use Rattle.ledger_rows.specs.declared.layout.Past.{Past}
-use Rattle.ledger_rows.specs.Layout.{secondsMost, workersMost, stepsMost, secondAt}
+use Rattle.ledger_rows.specs.declared.layout.Step.{Step}
+use Rattle.ledger_rows.specs.Layout.{secondsMost, workersMost, stepsMost, secondAt, stepsIn}
 use Rattle.ledger_seconds.specs.Seconds.{secondPlace, stepAdded}
 use Rattle.ledger_workers.specs.Workers.{workerPlace, workerPut}
-use Rattle.ledger_changes.specs.Changes.{ten, pushed}
+use Rattle.ledger_changes.specs.Changes.{changeLaid, noStep, pushed}
 
 -- 19: the second has as many steps as there may be; 18: it is new and as many seconds are held as there may be
 unfoldable pub placeRefusal : List ℕ → Place → ℕ
 placeRefusal ws p =
     cond (p .known)
-    (cond (ltb (getD ws (secondAt (p .row) + 3) 0) stepsMost) 0 19)
+    (cond (ltb (getD ws (secondAt (p .row) + stepsIn) 0) stepsMost) 0 19)
     (cond (ltb (p .rows) secondsMost) 0 18)
 
 unfoldable pub stepRefusal : List ℕ → ℕ → ℕ
@@ -26,15 +27,15 @@ unfoldable pub workerRefusal : List ℕ → ℕ → ℕ → ℕ
 workerRefusal ws a b = cond (workerPlace ws a b .known) 0 (cond (ltb (workerPlace ws a b .rows) workersMost) 0 17)
 
 -- a plan of no worker: its step is added, and the change is kept
-unfoldable pub plainDone : List ℕ → ℕ → ℕ → ℕ → List ℕ
-plainDone ws t drafts sequences = pushed (stepAdded ws t drafts sequences) (ten t drafts sequences 1 0 0 0 0 0 0)
+unfoldable pub plainDone : List ℕ → Step → List ℕ
+plainDone ws p = pushed (stepAdded ws p) (changeLaid p 1 0 0 0 0 0 0)
 
 -- a plan of a worker: its record is put too, and the one from before is kept with the change
-unfoldable pub decidedDone : List ℕ → ℕ → ℕ → ℕ → ℕ → ℕ → ℕ → ℕ → ℕ → Past → List ℕ
-decidedDone ws t drafts sequences a b width rounds stall past =
-    pushed (workerPut (stepAdded ws t drafts sequences) a b width rounds stall)
-    (ten t drafts sequences 1 (past .kind) a b (past .width) (past .rounds) (past .stall))
+unfoldable pub decidedDone : List ℕ → Step → ℕ → ℕ → ℕ → ℕ → ℕ → Past → List ℕ
+decidedDone ws p a b width rounds stall past =
+    pushed (workerPut (stepAdded ws p) a b width rounds stall)
+    (changeLaid p 1 (past .kind) a b (past .width) (past .rounds) (past .stall))
 
 -- a collection: the stall is cleared, and the record from before is kept with the change
 unfoldable pub collectedDone : List ℕ → ℕ → ℕ → Past → List ℕ
-collectedDone ws a b past = pushed (workerPut ws a b (past .width) (past .rounds) 0) (ten 0 0 0 0 2 a b (past .width) (past .rounds) (past .stall))
+collectedDone ws a b past = pushed (workerPut ws a b (past .width) (past .rounds) 0) (changeLaid noStep 0 2 a b (past .width) (past .rounds) (past .stall))

@@ -2,6 +2,7 @@
 use ledger_rows::layout::Place;
 use ledger_rows::layout::SECONDS_MOST;
 use ledger_rows::layout::STEPS_MOST;
+use ledger_rows::layout::Step;
 use ledger_rows::layout::WORKERS_MOST;
 ghost use mathlib.Core.Path.{_≡_};
 ghost use mathlib.Core.Bool.{true};
@@ -52,12 +53,23 @@ pub fn worker_refusal(storage: &[u64], a: u64, b: u64) -> u64
 }
 
 // A plan of no worker done, its second's place being found: its step is added, and the change is kept.
-pub fn act_plain(storage: &mut [u64], found: Place, second: u64, drafts: u64, sequences: u64)
-    requires { ⌜ (found ≡ secondPlace (now storage) second) × (room ≤ length (now storage)) ⌝ }
-    ensures { λ _. ⌜ now (storage .exit) ≡ plainDone (now (storage .entry)) second drafts sequences ⌝ }
+pub fn act_plain(storage: &mut [u64], found: Place, step: Step)
+    requires { ⌜ (found ≡ secondPlace (now storage) (step .second)) × (room ≤ length (now storage)) ⌝ }
+    ensures { λ _. ⌜ now (storage .exit) ≡ plainDone (now (storage .entry)) step ⌝ }
 {
-    let change = [second, drafts, sequences, 1, 0, 0, 0, 0, 0, 0];
-    ledger_seconds::inner::add_step(storage, found, second, drafts, sequences);
+    let change = [
+        step.second,
+        step.drafts,
+        step.sequences,
+        1,
+        0,
+        0,
+        0,
+        0,
+        0,
+        0,
+    ];
+    ledger_seconds::inner::add_step(storage, found, step);
     ledger_changes::inner::push(storage, &change);
 }
 
@@ -65,23 +77,21 @@ pub fn act_plain(storage: &mut [u64], found: Place, second: u64, drafts: u64, se
 pub fn act_decided(
     storage: &mut [u64],
     found: Place,
-    second: u64,
-    drafts: u64,
-    sequences: u64,
+    step: Step,
     a: u64,
     b: u64,
     width: u64,
     rounds: u64,
     stall: u64,
 )
-    requires { ⌜ (found ≡ secondPlace (now storage) second) × (room ≤ length (now storage)) ⌝ }
-    ensures { λ _. ⌜ now (storage .exit) ≡ decidedDone (now (storage .entry)) second drafts sequences a b width rounds stall (pastOf (now (storage .entry)) a b) ⌝ }
+    requires { ⌜ (found ≡ secondPlace (now storage) (step .second)) × (room ≤ length (now storage)) ⌝ }
+    ensures { λ _. ⌜ now (storage .exit) ≡ decidedDone (now (storage .entry)) step a b width rounds stall (pastOf (now (storage .entry)) a b) ⌝ }
 {
     let past = ledger_workers::inner::past(storage, a, b);
     let change = [
-        second,
-        drafts,
-        sequences,
+        step.second,
+        step.drafts,
+        step.sequences,
         1,
         past.kind,
         a,
@@ -90,7 +100,7 @@ pub fn act_decided(
         past.rounds,
         past.stall,
     ];
-    ledger_seconds::inner::add_step(storage, found, second, drafts, sequences);
+    ledger_seconds::inner::add_step(storage, found, step);
     ledger_workers::inner::put(storage, a, b, width, rounds, stall);
     ledger_changes::inner::push(storage, &change);
 }

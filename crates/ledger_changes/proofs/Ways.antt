@@ -5,10 +5,10 @@ use Prim.Native.Nat.{ℕ, _+_, _-_, _≤_, _<_, min}
 use borrow.Author.Tests.{lt-ltb, le-ltb, eq-eqb, ne-eqb}
 use lib.ListN.{getD, set}
 use Rattle.ledger_rows.specs.Words.{stored}
-use Rattle.ledger_rows.specs.Layout.{changesMost, available, changeAt, nextSlot}
+use Rattle.ledger_rows.specs.Layout.{changesMost, available, changeAt, nextSlot, plannedIn, kindIn, workerAIn, workerBIn, widthIn, roundsIn, stallIn}
 use Rattle.ledger_seconds.specs.Seconds.{stepRemoved}
 use Rattle.ledger_workers.specs.Workers.{workerPut, workerDropped}
-use Rattle.ledger_changes.specs.Changes.{ten, following, preceding, newestSlot, newestAt, pushed, popped, stepBack, recordBack, workerBack}
+use Rattle.ledger_changes.specs.Changes.{changeLaid, noStep, stepAt, following, preceding, newestSlot, newestAt, pushed, popped, stepBack, recordBack, workerBack}
 
 -- ---- the slots
 
@@ -36,33 +36,33 @@ module _ (ws : List ℕ) where
   unfolding pushed
   pushed-is change k left slot next one last a b c d e f = rw (f, e, d, c, b, a)
 
-  pub popped-is : (k slot : ℕ) (one last : List ℕ) → slot ≡ newestSlot ws → one ≡ stored (changeAt slot) (ten 0 0 0 0 0 0 0 0 0 0) ws → last ≡ set (set one 2 (k - 1)) 3 slot → last ≡ popped ws k
+  pub popped-is : (k slot : ℕ) (one last : List ℕ) → slot ≡ newestSlot ws → one ≡ stored (changeAt slot) (changeLaid noStep 0 0 0 0 0 0 0) ws → last ≡ set (set one 2 (k - 1)) 3 slot → last ≡ popped ws k
   unfolding popped
   popped-is k slot one last a b c = rw (c, b, a)
 
   -- ---- what the newest change did taken back
 
   module _ (at : ℕ) (is : at ≡ newestAt ws) where
-    pub step-back : (last : List ℕ) → getD ws (at + 3) 0 ≡ 1 → last ≡ stepRemoved ws (getD ws at 0) (getD ws (at + 1) 0) (getD ws (at + 2) 0) → last ≡ stepBack ws
+    pub step-back : (last : List ℕ) → getD ws (at + plannedIn) 0 ≡ 1 → last ≡ stepRemoved ws (stepAt ws at) → last ≡ stepBack ws
     unfolding stepBack
     step-back last e l = rw (← is, eq-eqb _ _ e) l
 
-    pub step-stays : (getD ws (at + 3) 0 ≡ 1 → ⊥) → ws ≡ stepBack ws
+    pub step-stays : (getD ws (at + plannedIn) 0 ≡ 1 → ⊥) → ws ≡ stepBack ws
     unfolding stepBack
     step-stays e = rw (← is, ne-eqb _ _ e)
 
-    pub worker-gone : (last : List ℕ) → getD ws (at + 4) 0 ≡ 1 → last ≡ workerDropped ws (getD ws (at + 5) 0) (getD ws (at + 6) 0) → last ≡ workerBack ws
+    pub worker-gone : (last : List ℕ) → getD ws (at + kindIn) 0 ≡ 1 → last ≡ workerDropped ws (getD ws (at + workerAIn) 0) (getD ws (at + workerBIn) 0) → last ≡ workerBack ws
     unfolding workerBack
     worker-gone last e l = rw (← is, eq-eqb _ _ e) l
 
-    pub worker-back : (last : List ℕ) → (getD ws (at + 4) 0 ≡ 1 → ⊥) → last ≡ recordBack ws at (getD ws (at + 5) 0) (getD ws (at + 6) 0) → last ≡ workerBack ws
+    pub worker-back : (last : List ℕ) → (getD ws (at + kindIn) 0 ≡ 1 → ⊥) → last ≡ recordBack ws at (getD ws (at + workerAIn) 0) (getD ws (at + workerBIn) 0) → last ≡ workerBack ws
     unfolding workerBack
     worker-back last e l = rw (← is, ne-eqb _ _ e) l
 
-  pub record-back : (at a b : ℕ) (last : List ℕ) → getD ws (at + 4) 0 ≡ 2 → last ≡ workerPut ws a b (getD ws (at + 7) 0) (getD ws (at + 8) 0) (getD ws (at + 9) 0) → last ≡ recordBack ws at a b
+  pub record-back : (at a b : ℕ) (last : List ℕ) → getD ws (at + kindIn) 0 ≡ 2 → last ≡ workerPut ws a b (getD ws (at + widthIn) 0) (getD ws (at + roundsIn) 0) (getD ws (at + stallIn) 0) → last ≡ recordBack ws at a b
   unfolding recordBack
   record-back at a b last e l = rw (eq-eqb _ _ e) l
 
-  pub record-stays : (at a b : ℕ) → (getD ws (at + 4) 0 ≡ 2 → ⊥) → ws ≡ recordBack ws at a b
+  pub record-stays : (at a b : ℕ) → (getD ws (at + kindIn) 0 ≡ 2 → ⊥) → ws ≡ recordBack ws at a b
   unfolding recordBack
   record-stays at a b e = rw (ne-eqb _ _ e)

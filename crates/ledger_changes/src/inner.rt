@@ -3,6 +3,16 @@ use ledger_rows::inner;
 use ledger_rows::layout::CHANGE;
 use ledger_rows::layout::CHANGES;
 use ledger_rows::layout::CHANGES_MOST;
+use ledger_rows::layout::DRAFTS;
+use ledger_rows::layout::KIND;
+use ledger_rows::layout::PLANNED;
+use ledger_rows::layout::ROUNDS;
+use ledger_rows::layout::SEQUENCES;
+use ledger_rows::layout::STALL;
+use ledger_rows::layout::Step;
+use ledger_rows::layout::WIDTH;
+use ledger_rows::layout::WORKER_A;
+use ledger_rows::layout::WORKER_B;
 ghost use mathlib.Core.Path.{_≡_};
 ghost use Prim.Native.Nat.{_+_, _<_, _≤_, min};
 ghost use lib.ListN.{length, set};
@@ -108,10 +118,15 @@ pub fn step_back(words: &mut [u64])
 {
     let at = newest_at(words);
     let second = words[at];
-    let drafts = words[at + 1];
-    let sequences = words[at + 2];
-    if words[at + 3] == 1 {
-        ledger_seconds::inner::remove_step(words, second, drafts, sequences);
+    let drafts = words[at + DRAFTS];
+    let sequences = words[at + SEQUENCES];
+    if words[at + PLANNED] == 1 {
+        let step = Step {
+            second,
+            drafts,
+            sequences,
+        };
+        ledger_seconds::inner::remove_step(words, step);
     }
 }
 
@@ -120,10 +135,10 @@ fn record_back(words: &mut [u64], at: usize, a: u64, b: u64)
     requires { ⌜ (at + changeWide ≤ workersFrom) × (room ≤ length (now words)) ⌝ }
     ensures { λ _. ⌜ now (words .exit) ≡ recordBack (now (words .entry)) at a b ⌝ }
 {
-    let width = words[at + 7];
-    let rounds = words[at + 8];
-    let stall = words[at + 9];
-    if words[at + 4] == 2 {
+    let width = words[at + WIDTH];
+    let rounds = words[at + ROUNDS];
+    let stall = words[at + STALL];
+    if words[at + KIND] == 2 {
         ledger_workers::inner::put(words, a, b, width, rounds, stall);
     }
 }
@@ -134,9 +149,9 @@ pub fn worker_back(words: &mut [u64])
     ensures { λ _. ⌜ now (words .exit) ≡ workerBack (now (words .entry)) ⌝ }
 {
     let at = newest_at(words);
-    let a = words[at + 5];
-    let b = words[at + 6];
-    if words[at + 4] == 1 {
+    let a = words[at + WORKER_A];
+    let b = words[at + WORKER_B];
+    if words[at + KIND] == 1 {
         ledger_workers::inner::drop_worker(words, a, b);
     } else {
         record_back(words, at, a, b);

@@ -28,9 +28,9 @@ pub record Kept (s : Standing) (ws : List ℕ) : Type 0 where
   -- a worker's record is what its own standing changes give
   pub record-is : (w : Worker) → pastOf ws (w .0) (w .1) ≡ pastFrom (recordOf w (s .changes))
   -- the next call answers by the rules
-  pub plan-answers : (p : Plan) → Small p → recorded ws (p .second) (p .drafts) (p .sequences) Nothing .0 ≡ answerOf (refusal (plan p) s)
+  pub plan-answers : (p : Plan) → Small p → recorded ws p Nothing .0 ≡ answerOf (refusal (plan p) s)
   pub decide-answers : (p : Plan) (w : Worker) (f : Option Switching → Switching) → Small p
-      → recorded ws (p .second) (p .drafts) (p .sequences) (Put (w .0) (w .1) (f (recordIn ws w) .width) (f (recordIn ws w) .rounds) (f (recordIn ws w) .stall)) .0 ≡ answerOf (refusal (decide p w f) s)
+      → recorded ws p (Put (w .0) (w .1) (f (recordIn ws w) .width) (f (recordIn ws w) .rounds) (f (recordIn ws w) .stall)) .0 ≡ answerOf (refusal (decide p w f) s)
   pub collect-answers : (w : Worker) → collected ws (w .0) (w .1) .0 ≡ stallOf (recordOf w (s .changes))
   pub back-answers : withdrawn ws .0 ≡ answerOf (refusal back s)
 

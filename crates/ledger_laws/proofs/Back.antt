@@ -12,7 +12,7 @@ use lib.Dec.{ltb, eqb}
 use lib.ListN.{length, getD, take, length-take}
 use Rattle.ledger_rows.specs.Map.{at, putAt, Ascending}
 use Rattle.ledger_rows.proofs.Tests.{by-test, not-both}
-use Rattle.ledger_rows.specs.Layout.{room, available, secondsMost, workersMost, changesMost, changeWide}
+use Rattle.ledger_rows.specs.Layout.{room, available, secondsMost, workersMost, changesMost, changeWide, draftsIn, sequencesIn, plannedIn, kindIn, workerAIn, workerBIn, widthIn, roundsIn, stallIn}
 use Rattle.ledger_workers.specs.Workers.{workerLess, workerSame}
 use Rattle.ledger_changes.specs.Changes.{following, newestAt, popped, stepBack, workerBack}
 use Rattle.ledger.specs.Calls.{withdrawn}
@@ -51,30 +51,30 @@ module _ (k slot : ℕ) (inside : slot < changesMost) (q : Change × Option Swit
 
   -- a plan's step
   step-undone : (m : ℕ) (workers : List (Worker × Switching)) (rest : List ℕ) (p : Plan) (seconds : List (ℕ × Sums))
-      → getD (changeWords q) 0 0 ≡ p .second → getD (changeWords q) 1 0 ≡ p .drafts → getD (changeWords q) 2 0 ≡ p .sequences → getD (changeWords q) 3 0 ≡ 1
+      → getD (changeWords q) 0 0 ≡ p .second → getD (changeWords q) draftsIn 0 ≡ p .drafts → getD (changeWords q) sequencesIn 0 ≡ p .sequences → getD (changeWords q) plannedIn 0 ≡ 1
       → length (addPlan p seconds) ≤ secondsMost → Ascending ltb eqb (addPlan p seconds) → ((u : Sums) → at ltb eqb (p .second) seconds ≡ some u → 1 ≤ u .steps)
       → stepBack (laid (length (addPlan p seconds)) m ring workers (addPlan p seconds) rest) ≡ laid (length seconds) m ring workers seconds rest
   step-undone m workers rest p seconds a b c d fits asc h =
       let now : List (ℕ × Sums) = addPlan p seconds in
       let has : (j : ℕ) → j < changeWide → getD (ws (length now) m workers now rest) (newestAt (ws (length now) m workers now rest) + j) 0 ≡ getD (changeWords q) j 0 = word (length now) m workers now rest in
-      step-plan (ws (length now) m workers now rest) (p .second) (p .drafts) (p .sequences) (has 3 (omega arith) ∙ d) (first-word (length now) m workers now rest ∙ a) (has 1 (omega arith) ∙ b) (has 2 (omega arith) ∙ c)
+      step-plan (ws (length now) m workers now rest) p (has plannedIn (omega arith) ∙ d) (first-word (length now) m workers now rest ∙ a) (has draftsIn (omega arith) ∙ b) (has sequencesIn (omega arith) ∙ c)
       ∙ removed m ring workers rest p seconds fits asc h
 
   -- a worker's record
   worker-undone : (n : ℕ) (seconds : List (ℕ × Sums)) (rest : List ℕ) (w : Worker) (workers : List (Worker × Switching)) (r : Switching) (o : Option Switching)
-      → getD (changeWords q) 4 0 ≡ pastFrom o .kind → getD (changeWords q) 5 0 ≡ w .0 → getD (changeWords q) 6 0 ≡ w .1
-      → getD (changeWords q) 7 0 ≡ pastFrom o .width → getD (changeWords q) 8 0 ≡ pastFrom o .rounds → getD (changeWords q) 9 0 ≡ pastFrom o .stall
+      → getD (changeWords q) kindIn 0 ≡ pastFrom o .kind → getD (changeWords q) workerAIn 0 ≡ w .0 → getD (changeWords q) workerBIn 0 ≡ w .1
+      → getD (changeWords q) widthIn 0 ≡ pastFrom o .width → getD (changeWords q) roundsIn 0 ≡ pastFrom o .rounds → getD (changeWords q) stallIn 0 ≡ pastFrom o .stall
       → at workerLess workerSame w workers ≡ o → length (putAt workerLess workerSame w r workers) ≤ workersMost → Ascending workerLess workerSame (putAt workerLess workerSame w r workers)
       → workerBack (laid n (length (putAt workerLess workerSame w r workers)) ring (putAt workerLess workerSame w r workers) seconds rest) ≡ laid n (length workers) ring workers seconds rest
   worker-undone n seconds rest w workers r none a b c d e f held fits asc =
       let now : List (Worker × Switching) = putAt workerLess workerSame w r workers in
       let has : (j : ℕ) → j < changeWide → getD (ws n (length now) now seconds rest) (newestAt (ws n (length now) now seconds rest) + j) 0 ≡ getD (changeWords q) j 0 = word n (length now) now seconds rest in
-      worker-new (ws n (length now) now seconds rest) (w .0) (w .1) (has 4 (omega arith) ∙ a) (has 5 (omega arith) ∙ b) (has 6 (omega arith) ∙ c)
+      worker-new (ws n (length now) now seconds rest) (w .0) (w .1) (has kindIn (omega arith) ∙ a) (has workerAIn (omega arith) ∙ b) (has workerBIn (omega arith) ∙ c)
       ∙ dropped n ring seconds rest w workers r fits asc held
   worker-undone n seconds rest w workers r (some o) a b c d e f held fits asc =
       let now : List (Worker × Switching) = putAt workerLess workerSame w r workers in
       let has : (j : ℕ) → j < changeWide → getD (ws n (length now) now seconds rest) (newestAt (ws n (length now) now seconds rest) + j) 0 ≡ getD (changeWords q) j 0 = word n (length now) now seconds rest in
-      worker-old (ws n (length now) now seconds rest) (w .0) (w .1) (o .width) (o .rounds) (o .stall) (has 4 (omega arith) ∙ a) (has 5 (omega arith) ∙ b) (has 6 (omega arith) ∙ c) (has 7 (omega arith) ∙ d) (has 8 (omega arith) ∙ e) (has 9 (omega arith) ∙ f)
+      worker-old (ws n (length now) now seconds rest) (w .0) (w .1) (o .width) (o .rounds) (o .stall) (has kindIn (omega arith) ∙ a) (has workerAIn (omega arith) ∙ b) (has workerBIn (omega arith) ∙ c) (has widthIn (omega arith) ∙ d) (has roundsIn (omega arith) ∙ e) (has stallIn (omega arith) ∙ f)
       ∙ put-back n ring seconds rest w workers r o fits asc held
 
 -- what stands without its newest change
@@ -87,7 +87,7 @@ unfolding secondsGiven workersGiven earlier changeWords Sound cleanAt
 taken-back k slot (planned p) cs log rest sound inside few =
     let q : Change × Option Switching = (planned p, none) in
     ap workerBack (step-undone k slot inside q log few (length (workersGiven cs)) (workersGiven cs) rest p (secondsGiven cs) refl refl refl refl (fit-seconds (planned p ∷ cs) sound) (seconds-ascend (planned p ∷ cs)) (λ u e. held-steps (sumsAt (p .second) cs) u (sym (at-seconds (p .second) cs) ∙ e)))
-    ∙ worker-none (under k slot (planned p) cs log rest) (word k slot inside q log few (length (secondsGiven cs)) (length (workersGiven cs)) (workersGiven cs) (secondsGiven cs) rest 4 (omega arith))
+    ∙ worker-none (under k slot (planned p) cs log rest) (word k slot inside q log few (length (secondsGiven cs)) (length (workersGiven cs)) (workersGiven cs) (secondsGiven cs) rest kindIn (omega arith))
 taken-back k slot (decided p w f) cs log rest sound inside few =
     let q : Change × Option Switching = (decided p w f, recordOf w cs) in
     let r : Switching = f (at workerLess workerSame w (workersGiven cs)) in
@@ -107,7 +107,7 @@ taken-back k slot (cleared w) cs log rest sound inside few = by-record (recordOf
         let fits : length workers ≤ workersMost = rw held at (fit-workers (cleared w ∷ cs) sound) in
         let asc : Ascending workerLess workerSame workers = rw held at (workers-ascend (cleared w ∷ cs)) in
         rw (held, e)
-        (ap workerBack (step-none (laid (length (secondsGiven cs)) (length workers) (ringOf k slot q log) workers (secondsGiven cs) rest) (word k slot inside q log few (length (secondsGiven cs)) (length workers) workers (secondsGiven cs) rest 3 (omega arith)))
+        (ap workerBack (step-none (laid (length (secondsGiven cs)) (length workers) (ringOf k slot q log) workers (secondsGiven cs) rest) (word k slot inside q log few (length (secondsGiven cs)) (length workers) workers (secondsGiven cs) rest plannedIn (omega arith)))
         ∙ worker-undone k slot inside q log few (length (secondsGiven cs)) (secondsGiven cs) rest w (workersGiven cs) (cleaned o) (some o) refl refl refl refl refl refl held fits asc)
 
 -- as many as there are

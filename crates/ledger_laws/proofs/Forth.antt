@@ -20,10 +20,10 @@ use Rattle.ledger.specs.declared.answer.Answer.the-variants.{Done, Refused}
 use Rattle.ledger.specs.declared.answer.Stall.{Stall}
 use Rattle.ledger.specs.declared.answer.Stall.the-variants.{Seconds}
 use Rattle.ledger.specs.declared.answer.Decision.the-variants.{Nothing, Put}
-use Rattle.ledger_rows.specs.Layout.{room, secondsMost, workersMost, changesMost, stepsMost, secondWide, workerWide, changeWide}
+use Rattle.ledger_rows.specs.Layout.{room, secondsMost, workersMost, changesMost, stepsMost, secondWide, workerWide, changeWide, stepsIn}
 use Rattle.ledger_seconds.specs.Seconds.{stepAdded}
 use Rattle.ledger_workers.specs.Workers.{workerLess, workerSame, pastOf, workerPut}
-use Rattle.ledger_changes.specs.Changes.{ten, pushed}
+use Rattle.ledger_changes.specs.Changes.{changeLaid, noStep, pushed}
 use Rattle.ledger_acts.specs.Acts.{plainDone, decidedDone, collectedDone}
 use Rattle.ledger.specs.Calls.{stepJudged, workerJudged, orElse, recorded, collectedOf, collected}
 use Rattle.ledger_laws.specs.Model.{Worker, Switching, Plan, Change, planned, decided, cleared, Sums, sumsAt, cleaned, recordOf, stepRule, workerRule, plan, decide, collect, Standing, refusal, stands, step, Small}
@@ -78,7 +78,7 @@ module _ (s : Standing) (rest : List ℕ) (r : Reached s) where
       judged-step E t (wide-enough s rest)
       ∙ refused-step E t (before ltb eqb t (secondsGiven cs)) (length (secondsGiven cs)) (isHeld o) (sumsAt t cs .steps)
       (place-second (length (workersGiven cs)) (newestOf s) (workersGiven cs) rest t (secondsGiven cs) (fit-seconds cs (r .sound)) (seconds-ascend cs) o (at-seconds t cs))
-      (λ q. read-second (length (secondsGiven cs)) (length (workersGiven cs)) (newestOf s) (workersGiven cs) rest t (secondsGiven cs) (fit-seconds cs (r .sound)) (sumsAt t cs) (held-some t (sym (held-test (sumsAt t cs)) ∙ q)) 3 (omega arith))
+      (λ q. read-second (length (secondsGiven cs)) (length (workersGiven cs)) (newestOf s) (workersGiven cs) rest t (secondsGiven cs) (fit-seconds cs (r .sound)) (sumsAt t cs) (held-some t (sym (held-test (sumsAt t cs)) ∙ q)) stepsIn (omega arith))
       ∙ rw (held-test (sumsAt t cs), length-seconds cs)
 
   pub by-worker-rule : (w : Worker) → workerJudged E (w .0) (w .1) ≡ workerRule w cs
@@ -126,26 +126,30 @@ room-for p cs m ring workers rest small e sound =
     let f : Fair (sumsAt (p .second) cs) = fair (p .second) cs sound in
     let h : sumsAt (p .second) cs .steps < stepsMost = rule-steps (p .second) cs e in
     by-test (ltb 0 (sumsAt (p .second) cs .steps))
-    (λ l. rw l (omega (arith, f .drafts-few, small .drafts-small), omega (arith, f .sequences-few, small .sequences-small), omega arith))
+    (λ l. rw l (
+      omega (arith, f .drafts-few, f .sequences-few, small .drafts-small, small .sequences-small),
+      omega (arith, f .sequences-few, small .sequences-small),
+      omega arith,
+    ))
     (λ l. rw l (rw (length-seconds cs) (rule-seconds (p .second) cs e l)))
 
 plan-added : (p : Plan) (cs : List Change) (m : ℕ) (ring : Newest) (workers : List (Worker × Switching)) (rest : List ℕ) → Small p → stepRule (p .second) cs ≡ 0 → Sound cs
-    → stepAdded (laid (length (secondsGiven cs)) m ring workers (secondsGiven cs) rest) (p .second) (p .drafts) (p .sequences) ≡ laid (length (addPlan p (secondsGiven cs))) m ring workers (addPlan p (secondsGiven cs)) rest
+    → stepAdded (laid (length (secondsGiven cs)) m ring workers (secondsGiven cs) rest) p ≡ laid (length (addPlan p (secondsGiven cs))) m ring workers (addPlan p (secondsGiven cs)) rest
 plan-added p cs m ring workers rest small e sound = added m ring workers rest p (secondsGiven cs) (fit-seconds cs sound) (seconds-ascend cs) (heldSums (sumsAt (p .second) cs)) (at-seconds (p .second) cs) (room-for p cs m ring workers rest small e sound)
 
 -- the words after a plan of no worker
 plain-done : (p : Plan) (s : Standing) (rest : List ℕ) → Reached s → Small p → stepRule (p .second) (s .changes) ≡ 0
-    → plainDone (encode s rest) (p .second) (p .drafts) (p .sequences) ≡ encode (stands (planned p) s) rest
+    → plainDone (encode s rest) p ≡ encode (stands (planned p) s) rest
 unfolding plainDone encode slotOf secondsGiven workersGiven logged earlier changeWords
 plain-done p s rest r small e =
     let cs : List Change = s .changes in
-    ap (λ (l : List ℕ). pushed l (ten (p .second) (p .drafts) (p .sequences) 1 0 0 0 0 0 0)) (plan-added p cs (length (workersGiven cs)) (newestOf s) (workersGiven cs) rest small e (r .sound))
+    ap (λ (l : List ℕ). pushed l (changeLaid p 1 0 0 0 0 0 0)) (plan-added p cs (length (workersGiven cs)) (newestOf s) (workersGiven cs) rest small e (r .sound))
     ∙ pushed-change (length (addPlan p (secondsGiven cs))) (length (workersGiven cs)) (workersGiven cs) (addPlan p (secondsGiven cs)) rest (s .left) (slotOf cs) (planned p, none) (take (s .left) (logged cs))
     (take (min (s .left + 1) changesMost) ((planned p, none) ∷ logged cs)) (r .few) (slot-inside cs) (kept-more (s .left) (planned p, none) (logged cs) (r .few))
 
 -- the words after a plan of a worker
 decided-done : (p : Plan) (w : Worker) (f : Option Switching → Switching) (s : Standing) (rest : List ℕ) → Reached s → Small p → workerRule w (s .changes) ≡ 0 → stepRule (p .second) (s .changes) ≡ 0
-    → decidedDone (encode s rest) (p .second) (p .drafts) (p .sequences) (w .0) (w .1) (f (recordOf w (s .changes)) .width) (f (recordOf w (s .changes)) .rounds) (f (recordOf w (s .changes)) .stall) (pastFrom (recordOf w (s .changes)))
+    → decidedDone (encode s rest) p (w .0) (w .1) (f (recordOf w (s .changes)) .width) (f (recordOf w (s .changes)) .rounds) (f (recordOf w (s .changes)) .stall) (pastFrom (recordOf w (s .changes)))
     ≡ encode (stands (decided p w f) s) rest
 unfolding decidedDone encode slotOf secondsGiven workersGiven logged earlier changeWords
 decided-done p w f s rest r small g e =
@@ -153,7 +157,7 @@ decided-done p w f s rest r small g e =
     let q : Change × Option Switching = (decided p w f, recordOf w cs) in
     let seconds : List (ℕ × Sums) = addPlan p (secondsGiven cs) in
     let workers : List (Worker × Switching) = putAt workerLess workerSame w (f (recordOf w cs)) (workersGiven cs) in
-    let words : List ℕ = ten (p .second) (p .drafts) (p .sequences) 1 (pastFrom (recordOf w cs) .kind) (w .0) (w .1) (pastFrom (recordOf w cs) .width) (pastFrom (recordOf w cs) .rounds) (pastFrom (recordOf w cs) .stall) in
+    let words : List ℕ = changeLaid p 1 (pastFrom (recordOf w cs) .kind) (w .0) (w .1) (pastFrom (recordOf w cs) .width) (pastFrom (recordOf w cs) .rounds) (pastFrom (recordOf w cs) .stall) in
     rw (at-workers w cs)
     (ap (λ (l : List ℕ). pushed (workerPut l (w .0) (w .1) (f (recordOf w cs) .width) (f (recordOf w cs) .rounds) (f (recordOf w cs) .stall)) words)
     (plan-added p cs (length (workersGiven cs)) (newestOf s) (workersGiven cs) rest small e (r .sound))
@@ -172,7 +176,7 @@ cleared-done w o s rest r e =
     let held : at workerLess workerSame w (workersGiven cs) ≡ some o = at-workers w cs ∙ e in
     let workers : List (Worker × Switching) = putAt workerLess workerSame w (cleaned o) (workersGiven cs) in
     rw (held, e)
-    (ap (λ (l : List ℕ). pushed l (ten 0 0 0 0 2 (w .0) (w .1) (o .width) (o .rounds) (o .stall)))
+    (ap (λ (l : List ℕ). pushed l (changeLaid noStep 0 2 (w .0) (w .1) (o .width) (o .rounds) (o .stall)))
     (put (length (secondsGiven cs)) (newestOf s) (secondsGiven cs) rest w (workersGiven cs) (fit-workers cs (r .sound)) (workers-ascend cs) (cleaned o) (some o) held (λ l. absurd (not-both true refl l)))
     ∙ pushed-change (length (secondsGiven cs)) (length workers) workers (secondsGiven cs) rest (s .left) (slotOf cs) q (take (s .left) (logged cs))
     (take (min (s .left + 1) changesMost) (q ∷ logged cs)) (r .few) (slot-inside cs) (kept-more (s .left) q (logged cs) (r .few)))
@@ -183,7 +187,7 @@ abbrev pub answerOf : ℕ → Answer
 answerOf refused = cond (eqb refused 0) Done (Refused refused)
 
 pub plan-made : (p : Plan) (s : Standing) (rest : List ℕ) → Small p → Reached s
-    → recorded (encode s rest) (p .second) (p .drafts) (p .sequences) Nothing ≡ (answerOf (refusal (plan p) s), encode (step (plan p) s) rest)
+    → recorded (encode s rest) p Nothing ≡ (answerOf (refusal (plan p) s), encode (step (plan p) s) rest)
 unfolding recorded step refusal
 plan-made p s rest small r = rw (by-rule s rest r (p .second)) (by-test (eqb (stepRule (p .second) (s .changes)) 0)
     (λ l. rw (l, plain-done p s rest r small (eqb-true (stepRule (p .second) (s .changes)) 0 l)))
@@ -201,7 +205,7 @@ read-back none = refl
 read-back (some r) = refl
 
 pub decide-made : (p : Plan) (w : Worker) (f : Option Switching → Switching) (s : Standing) (rest : List ℕ) → Small p → Reached s
-    → recorded (encode s rest) (p .second) (p .drafts) (p .sequences) (Put (w .0) (w .1) (f (recordIn (encode s rest) w) .width) (f (recordIn (encode s rest) w) .rounds) (f (recordIn (encode s rest) w) .stall))
+    → recorded (encode s rest) p (Put (w .0) (w .1) (f (recordIn (encode s rest) w) .width) (f (recordIn (encode s rest) w) .rounds) (f (recordIn (encode s rest) w) .stall))
     ≡ (answerOf (refusal (decide p w f) s), encode (step (decide p w f) s) rest)
 unfolding recorded step refusal recordIn
 decide-made p w f s rest small r =

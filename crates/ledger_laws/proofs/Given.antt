@@ -186,14 +186,20 @@ few-workers (planned p ∷ cs) s = few-workers cs (s .2)
 few-workers (decided p w f ∷ cs) s = by-test (isHeld (recordOf w cs)) (λ l. rw l (few-workers cs (s .3))) (λ l. rw l (rule-workers w cs (s .1) l))
 few-workers (cleared w ∷ cs) s = few-workers cs (s .1)
 
--- a second's steps bound its sums
+-- a second's steps bound its sums: drafts ≤ 64 * sequences, and each step has 1 to 1,024 sequences
 pub record Fair (s : Sums) : Type 0 where
   pub few : s .steps ≤ stepsMost
-  pub drafts-few : s .drafts ≤ 65536 * s .steps
+  pub some-sequences : s .steps ≤ s .sequences
   pub sequences-few : s .sequences ≤ 1024 * s .steps
+  pub drafts-few : s .drafts ≤ 64 * s .sequences
 
 fair-more : (p : Plan) (s : Sums) → Small p → s .steps < stepsMost → Fair s → Fair (more p s)
-fair-more p s small h f = record { few = omega arith; drafts-few = omega (arith, small .drafts-small, f .drafts-few); sequences-few = omega (arith, small .sequences-small, f .sequences-few) }
+fair-more p s small h f = record {
+  few = omega arith;
+  some-sequences = omega (arith, small .some-sequences, f .some-sequences);
+  sequences-few = omega (arith, small .sequences-small, f .sequences-few);
+  drafts-few = omega (arith, small .drafts-small, f .drafts-few);
+}
 
 fair-counted : (t : ℕ) (p : Plan) (cs : List Change) → Small p → stepRule (p .second) cs ≡ 0 → Fair (sumsAt t cs) → Fair (counted t p (sumsAt t cs))
 unfolding counted
@@ -205,7 +211,7 @@ fair-counted t p cs small e f = by-test (eqb (p .second) t)
 
 pub fair : (t : ℕ) (cs : List Change) → Sound cs → Fair (sumsAt t cs)
 unfolding Sound sumsAt
-fair t [] s = record { few = omega arith; drafts-few = omega arith; sequences-few = omega arith }
+fair t [] s = record { few = omega arith; some-sequences = omega arith; sequences-few = omega arith; drafts-few = omega arith }
 fair t (planned p ∷ cs) s = fair-counted t p cs (s .0) (s .1) (fair t cs (s .2))
 fair t (decided p w f ∷ cs) s = fair-counted t p cs (s .0) (s .2) (fair t cs (s .3))
 fair t (cleared w ∷ cs) s = fair t cs (s .1)

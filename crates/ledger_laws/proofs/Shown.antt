@@ -9,7 +9,7 @@ use lib.Dec.{ltb, eqb}
 use lib.Ieee.{Float}
 use lib.ListN.{length, getD, drop, length-map, List·getD-map}
 use Rattle.ledger_rows.specs.Map.{at, Ascending}
-use Rattle.ledger_rows.specs.Layout.{room, secondWide, secondAt, secondsHeld}
+use Rattle.ledger_rows.specs.Layout.{room, secondWide, secondAt, secondsHeld, draftsIn, sequencesIn, stepsIn}
 use Rattle.ledger_series.specs.Series.{meanOf, secondOf, meanDraft, meanBatch, upTo, front, figureOf}
 use Rattle.ledger_series.proofs.Fronts.{up-is}
 use Rattle.ledger.specs.declared.answer.Count.the-variants.{Is}
@@ -71,15 +71,15 @@ module _ (s : Standing) (rest : List ℕ) (r : Reached s) where
   drafts-up : upTo (meanDraft E) (length rows) ≡ map draftOf rows
   unfolding meanDraft
   drafts-up = all-rows (meanDraft E) draftOf (λ i h.
-      let d : getD E (secondAt i + 1) 0 ≡ getD rows i noSecond .1 .drafts = word-of i 1 h (omega arith) in
-      let q : getD E (secondAt i + 2) 0 ≡ getD rows i noSecond .1 .sequences = word-of i 2 h (omega arith) in
+      let d : getD E (secondAt i + draftsIn) 0 ≡ getD rows i noSecond .1 .drafts = word-of i draftsIn h (omega arith) in
+      let q : getD E (secondAt i + sequencesIn) 0 ≡ getD rows i noSecond .1 .sequences = word-of i sequencesIn h (omega arith) in
       rw (d, q))
 
   batches-up : upTo (meanBatch E) (length rows) ≡ map batchOf rows
   unfolding meanBatch
   batches-up = all-rows (meanBatch E) batchOf (λ i h.
-      let q : getD E (secondAt i + 2) 0 ≡ getD rows i noSecond .1 .sequences = word-of i 2 h (omega arith) in
-      let n : getD E (secondAt i + 3) 0 ≡ getD rows i noSecond .1 .steps = word-of i 3 h (omega arith) in
+      let q : getD E (secondAt i + sequencesIn) 0 ≡ getD rows i noSecond .1 .sequences = word-of i sequencesIn h (omega arith) in
+      let n : getD E (secondAt i + stepsIn) 0 ≡ getD rows i noSecond .1 .steps = word-of i stepsIn h (omega arith) in
       rw (q, n))
 
   pub shown : Shown s rows E

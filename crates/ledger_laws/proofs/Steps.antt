@@ -12,7 +12,7 @@ use Rattle.ledger_rows.specs.Words.{stored}
 use Rattle.ledger_rows.specs.Map.{at, putAt, without, Ascending, isHeld, before}
 use Rattle.ledger_rows.proofs.Maps.{at-put, length-put, without-put, put-put, put-there as put-held}
 use Rattle.ledger_rows.proofs.Tests.{not-both}
-use Rattle.ledger_rows.specs.Layout.{secondAt, secondsMost, workersMost}
+use Rattle.ledger_rows.specs.Layout.{secondAt, secondsMost, workersMost, draftsIn, sequencesIn, stepsIn}
 use Rattle.ledger_seconds.specs.Seconds.{stepAdded, stepRemoved}
 use Rattle.ledger_workers.specs.Workers.{workerLess, workerSame, pastOf, workerPut, workerDropped}
 use Rattle.ledger_laws.specs.Model.{Worker, Switching, Plan, Sums, more}
@@ -50,34 +50,34 @@ module _ (m : ℕ) (ring : Newest) (workers : List (Worker × Switching)) (rest 
   as-long o u e = length-put ltb eqb second-order t u seconds ∙ rw e
 
   pub added : length seconds ≤ secondsMost → Ascending ltb eqb seconds → (o : Option Sums) → at ltb eqb t seconds ≡ o → Room o
-      → stepAdded (S seconds) t (p .drafts) (p .sequences) ≡ S (addPlan p seconds)
+      → stepAdded (S seconds) p ≡ S (addPlan p seconds)
   unfolding Room
   added fits asc none e few =
       let b : ℕ = before ltb eqb t seconds in
       let end : laid (length seconds + 1) m ring workers (putAt ltb eqb t (firstOf p) seconds) rest ≡ S (addPlan p seconds) = rw (first-is e, longer (firstOf p) e) in
-      added-here (S seconds) t (p .drafts) (p .sequences) b (length seconds) (place-second m ring workers rest t seconds fits asc none e) few
+      added-here (S seconds) p b (length seconds) (place-second m ring workers rest t seconds fits asc none e) few
       ∙ ap (λ (l : List ℕ). set l 0 (length seconds + 1)) (opened-second (length seconds) m ring workers rest t seconds fits (firstOf p) e few)
       ∙ set-seconds (length seconds) (length seconds + 1) m ring workers (putAt ltb eqb t (firstOf p) seconds) rest
       ∙ end
   added fits asc (some u) e h =
       let b : ℕ = before ltb eqb t seconds in
       let end : laid (length seconds) m ring workers (putAt ltb eqb t (more p u) seconds) rest ≡ S (addPlan p seconds) = rw (more-is u e, as-long u (more p u) e) in
-      added-there (S seconds) t (p .drafts) (p .sequences) b (length seconds) (place-second m ring workers rest t seconds fits asc (some u) e) (u .drafts) (u .sequences) (u .steps)
-      (read-second (length seconds) m ring workers rest t seconds fits u e 1 (omega arith)) (read-second (length seconds) m ring workers rest t seconds fits u e 2 (omega arith)) (read-second (length seconds) m ring workers rest t seconds fits u e 3 (omega arith))
+      added-there (S seconds) p b (length seconds) (place-second m ring workers rest t seconds fits asc (some u) e) (u .drafts) (u .sequences) (u .steps)
+      (read-second (length seconds) m ring workers rest t seconds fits u e draftsIn (omega arith)) (read-second (length seconds) m ring workers rest t seconds fits u e sequencesIn (omega arith)) (read-second (length seconds) m ring workers rest t seconds fits u e stepsIn (omega arith))
       (h .0) (h .1) (h .2)
       ∙ stored-second (length seconds) m ring workers rest t seconds fits u (more p u) e
       ∙ end
 
   -- and taken away again
   removed-from : (now : List (ℕ × Sums)) → length now ≤ secondsMost → Ascending ltb eqb now → (o : Option Sums) → at ltb eqb t seconds ≡ o → now ≡ putAt ltb eqb t (grown p o) seconds → (((u : Sums) → o ≡ some u → 1 ≤ u .steps))
-      → stepRemoved (S now) t (p .drafts) (p .sequences) ≡ S seconds
+      → stepRemoved (S now) p ≡ S seconds
   unfolding grown
   removed-from now fits asc none e is some-steps =
       let b : ℕ = before ltb eqb t now in
       let there : at ltb eqb t now ≡ some (firstOf p) = rw is (at-put ltb eqb second-order t (firstOf p) seconds) in
       let gone : without ltb eqb t now ≡ seconds = rw is (without-put ltb eqb second-order t (firstOf p) seconds e) in
       let len : length now - 1 ≡ length seconds = rw (is, longer (firstOf p) e) (omega arith) in
-      removed-last (S now) t (p .drafts) (p .sequences) b (length now) (place-second m ring workers rest t now fits asc (some (firstOf p)) there) 1 (read-second (length now) m ring workers rest t now fits (firstOf p) there 3 (omega arith)) (omega arith)
+      removed-last (S now) p b (length now) (place-second m ring workers rest t now fits asc (some (firstOf p)) there) 1 (read-second (length now) m ring workers rest t now fits (firstOf p) there stepsIn (omega arith)) (omega arith)
       ∙ ap (λ (l : List ℕ). set l 0 (length now - 1)) (closed-second (length now) m ring workers rest t now fits (firstOf p) there)
       ∙ set-seconds (length now) (length now - 1) m ring workers (without ltb eqb t now) rest
       ∙ rw (gone, len)
@@ -92,15 +92,15 @@ module _ (m : ℕ) (ring : Newest) (workers : List (Worker × Switching)) (rest 
       let one : 1 ≤ u .steps = some-steps u refl in
       let two : 1 < u .steps + 1 = omega arith in
       let fields : (t ∷ (u .drafts + p .drafts - p .drafts) ∷ (u .sequences + p .sequences - p .sequences) ∷ (u .steps + 1 - 1) ∷ []) ≡ secondWords (t, u) = rw (d, s, n) in
-      removed-there (S now) t (p .drafts) (p .sequences) b (length now) (place-second m ring workers rest t now fits asc (some (more p u)) there) (u .drafts + p .drafts) (u .sequences + p .sequences) (u .steps + 1)
-      (read-second (length now) m ring workers rest t now fits (more p u) there 1 (omega arith)) (read-second (length now) m ring workers rest t now fits (more p u) there 2 (omega arith)) (read-second (length now) m ring workers rest t now fits (more p u) there 3 (omega arith))
+      removed-there (S now) p b (length now) (place-second m ring workers rest t now fits asc (some (more p u)) there) (u .drafts + p .drafts) (u .sequences + p .sequences) (u .steps + 1)
+      (read-second (length now) m ring workers rest t now fits (more p u) there draftsIn (omega arith)) (read-second (length now) m ring workers rest t now fits (more p u) there sequencesIn (omega arith)) (read-second (length now) m ring workers rest t now fits (more p u) there stepsIn (omega arith))
       two
       ∙ ap (λ (l : List ℕ). stored (secondAt b) l (S now)) fields
       ∙ stored-second (length now) m ring workers rest t now fits (more p u) u there
       ∙ rw (back, len)
 
   pub removed : length (addPlan p seconds) ≤ secondsMost → Ascending ltb eqb (addPlan p seconds) → ((u : Sums) → at ltb eqb t seconds ≡ some u → 1 ≤ u .steps)
-      → stepRemoved (S (addPlan p seconds)) t (p .drafts) (p .sequences) ≡ S seconds
+      → stepRemoved (S (addPlan p seconds)) p ≡ S seconds
   unfolding addPlan
   removed fits asc h = removed-from (addPlan p seconds) fits asc (at ltb eqb t seconds) refl refl h
 

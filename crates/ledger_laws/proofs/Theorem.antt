@@ -94,17 +94,17 @@ none-zero : [] ≡ zeros 0
 unfolding zeros
 none-zero = refl
 
-four-zeros : secondWords noSecond ≡ zeros secondWide
+second-zeros : secondWords noSecond ≡ zeros secondWide
 unfolding zeros
-four-zeros = refl
+second-zeros = refl
 
-five-zeros : workerWords noWorker ≡ zeros workerWide
+worker-zeros : workerWords noWorker ≡ zeros workerWide
 unfolding zeros
-five-zeros = refl
+worker-zeros = refl
 
-ten-zeros : changeWords noChange ≡ zeros changeWide
+change-zeros : changeWords noChange ≡ zeros changeWide
 unfolding zeros changeWords
-ten-zeros = refl
+change-zeros = refl
 
 -- free slots are 0
 free : {R : Type 0} (words : R → List ℕ) (e : R) (w : ℕ) → words e ≡ zeros w → (n : ℕ) → flat words (pad e n []) ≡ zeros (w * n)
@@ -127,7 +127,7 @@ empty-words rest =
     let s : ℕ = secondWide * secondsMost in
     let a : zeros room ≡ zeros changesFrom ++ (zeros c ++ (zeros w ++ zeros s)) =
     zeros-add changesFrom (c + (w + s)) ∙ ap (λ (l : List ℕ). zeros changesFrom ++ l) (zeros-add c (w + s) ∙ ap (λ (l : List ℕ). zeros c ++ l) (zeros-add w s)) in
-    rw (a, free-ring changeWords noChange changeWide ten-zeros changesMost, free workerWords noWorker workerWide five-zeros workersMost, free secondWords noSecond secondWide four-zeros secondsMost) (simp append-assoc (zeros-first _))
+    rw (a, free-ring changeWords noChange changeWide change-zeros changesMost, free workerWords noWorker workerWide worker-zeros workersMost, free secondWords noSecond secondWide second-zeros secondsMost) (simp append-assoc (zeros-first _))
 
 pub reached-nothing : Reached nothingStands
 unfolding Sound

@@ -8,6 +8,7 @@ use lib.Ieee.{Float}
 use lib.ListN.{length}
 use Rattle.ledger_rows.specs.Layout.{room, available}
 use Rattle.ledger_rows.specs.declared.layout.Past.{Past}
+use Rattle.ledger_rows.specs.declared.layout.Step.{Step}
 use Rattle.ledger_rows.proofs.Tests.{by-test}
 use Rattle.ledger_workers.specs.Workers.{pastOf}
 use Rattle.ledger.specs.declared.answer.Answer.the-variants.{Done, Refused}
@@ -34,11 +35,11 @@ pub fresh-refused : (ws : List ℕ) (n : ℕ) → emptied ws .0 ≡ Refused n �
 unfolding emptied
 fresh-refused ws n e = by-test (ltb (length ws) room) (λ l. rw l) (λ l. absurd (done-is-none n (rw l at e)))
 
-pub record-refused : (ws : List ℕ) (t drafts sequences : ℕ) (change : Decision) (n : ℕ) → recorded ws t drafts sequences change .0 ≡ Refused n → recorded ws t drafts sequences change .1 ≡ ws
+pub record-refused : (ws : List ℕ) (p : Step) (change : Decision) (n : ℕ) → recorded ws p change .0 ≡ Refused n → recorded ws p change .1 ≡ ws
 unfolding recorded
-record-refused ws t drafts sequences Nothing n e = unless-refused (stepJudged ws t) n ws (plainDone ws t drafts sequences) e
-record-refused ws t drafts sequences (Put a b width rounds stall) n e =
-    unless-refused (orElse (workerJudged ws a b) (stepJudged ws t)) n ws (decidedDone ws t drafts sequences a b width rounds stall (pastOf ws a b)) e
+record-refused ws p Nothing n e = unless-refused (stepJudged ws (p .second)) n ws (plainDone ws p) e
+record-refused ws p (Put a b width rounds stall) n e =
+    unless-refused (orElse (workerJudged ws a b) (stepJudged ws (p .second))) n ws (decidedDone ws p a b width rounds stall (pastOf ws a b)) e
 
 -- a collection of a long storage is never refused
 collected-some : (ws : List ℕ) (a b : ℕ) (p : Past) (n : ℕ) → collectedOf ws a b p .0 ≡ Refused·stall n → ⊥

@@ -8,36 +8,40 @@ use borrow.Author.Tests.{lt-ltb, le-ltb}
 use lib.Dec.{ltb}
 use lib.ListN.{length, getD, set}
 use Rattle.ledger_rows.specs.Words.{stored, opened, closed}
-use Rattle.ledger_rows.specs.Layout.{room, secondsMost, workersMost, stepsMost, secondAt, workerAt}
+use Rattle.ledger_rows.specs.declared.layout.Step.{Step}
+use Rattle.ledger_rows.specs.Layout.{room, secondsMost, workersMost, stepsMost, secondAt, workerAt, draftsIn, sequencesIn, stepsIn, plannedIn, kindIn, workerAIn, workerBIn, widthIn, roundsIn, stallIn}
 use Rattle.ledger_seconds.specs.Seconds.{secondPlace, secondRaised, secondInserted, stepAdded, secondLowered, stepRemoved}
 use Rattle.ledger_workers.specs.Workers.{workerPlace, pastAt, pastOf, workerStored, workerInserted, workerPut, workerTaken, workerDropped}
 use Rattle.ledger_changes.specs.Changes.{newestAt, stepBack, recordBack, workerBack}
 use Rattle.ledger_acts.specs.Acts.{placeRefusal, stepRefusal, workerRefusal}
 use Rattle.ledger.specs.Calls.{stepJudged, workerJudged}
 
-module _ (ws : List ℕ) (t drafts sequences b n : ℕ) where
+module _ (ws : List ℕ) (p : Step) (b n : ℕ) where
+  abbrev t : ℕ
+  t = p .second
+
   module _ (is : secondPlace ws t ≡ record { row = b; rows = n; known = true }) (x y z : ℕ)
-      (r1 : getD ws (secondAt b + 1) 0 ≡ x) (r2 : getD ws (secondAt b + 2) 0 ≡ y) (r3 : getD ws (secondAt b + 3) 0 ≡ z) where
-    pub added-there : x + drafts ≤ 2 ^ 64 - 1 → y + sequences ≤ 2 ^ 64 - 1 → z + 1 ≤ 2 ^ 64 - 1
-        → stepAdded ws t drafts sequences ≡ stored (secondAt b) (t ∷ (x + drafts) ∷ (y + sequences) ∷ (z + 1) ∷ []) ws
+      (r1 : getD ws (secondAt b + draftsIn) 0 ≡ x) (r2 : getD ws (secondAt b + sequencesIn) 0 ≡ y) (r3 : getD ws (secondAt b + stepsIn) 0 ≡ z) where
+    pub added-there : x + p .drafts ≤ 2 ^ 64 - 1 → y + p .sequences ≤ 2 ^ 64 - 1 → z + 1 ≤ 2 ^ 64 - 1
+        → stepAdded ws p ≡ stored (secondAt b) (t ∷ (x + p .drafts) ∷ (y + p .sequences) ∷ (z + 1) ∷ []) ws
     unfolding stepAdded secondRaised
     added-there h k l =
-        let d : min (x + drafts) (2 ^ 64 - 1) ≡ x + drafts = min-eq-left h in
-        let s : min (y + sequences) (2 ^ 64 - 1) ≡ y + sequences = min-eq-left k in
+        let d : min (x + p .drafts) (2 ^ 64 - 1) ≡ x + p .drafts = min-eq-left h in
+        let s : min (y + p .sequences) (2 ^ 64 - 1) ≡ y + p .sequences = min-eq-left k in
         let c : min (z + 1) (2 ^ 64 - 1) ≡ z + 1 = min-eq-left l in
         rw (is, r1, r2, r3, d, s, c)
 
-    pub removed-there : 1 < z → stepRemoved ws t drafts sequences ≡ stored (secondAt b) (t ∷ (x - drafts) ∷ (y - sequences) ∷ (z - 1) ∷ []) ws
+    pub removed-there : 1 < z → stepRemoved ws p ≡ stored (secondAt b) (t ∷ (x - p .drafts) ∷ (y - p .sequences) ∷ (z - 1) ∷ []) ws
     unfolding stepRemoved secondLowered
     removed-there h = rw (is, r3, lt-ltb 1 z h, r1, r2)
 
   pub added-here : secondPlace ws t ≡ record { row = b; rows = n; known = false } → n < secondsMost
-      → stepAdded ws t drafts sequences ≡ set (opened (secondAt b) (secondAt n) (t ∷ drafts ∷ sequences ∷ 1 ∷ []) ws) 0 (n + 1)
+      → stepAdded ws p ≡ set (opened (secondAt b) (secondAt n) (t ∷ p .drafts ∷ p .sequences ∷ 1 ∷ []) ws) 0 (n + 1)
   unfolding stepAdded secondInserted
   added-here is h = rw (is, lt-ltb n secondsMost h)
 
-  pub removed-last : secondPlace ws t ≡ record { row = b; rows = n; known = true } → (z : ℕ) → getD ws (secondAt b + 3) 0 ≡ z → z ≤ 1
-      → stepRemoved ws t drafts sequences ≡ set (closed (secondAt b) (secondAt (n - 1)) (0 ∷ 0 ∷ 0 ∷ 0 ∷ []) ws) 0 (n - 1)
+  pub removed-last : secondPlace ws t ≡ record { row = b; rows = n; known = true } → (z : ℕ) → getD ws (secondAt b + stepsIn) 0 ≡ z → z ≤ 1
+      → stepRemoved ws p ≡ set (closed (secondAt b) (secondAt (n - 1)) (0 ∷ 0 ∷ 0 ∷ 0 ∷ []) ws) 0 (n - 1)
   unfolding stepRemoved secondLowered
   removed-last is z r3 h = rw (is, r3, le-ltb 1 z h)
 
@@ -49,7 +53,7 @@ pub judged-worker : (ws : List ℕ) (a b : ℕ) → room ≤ length ws → worke
 unfolding workerJudged
 judged-worker ws a b h = rw (le-ltb (length ws) room h)
 
-pub refused-step : (ws : List ℕ) (t b n : ℕ) (known : Bool) (z : ℕ) → secondPlace ws t ≡ record { row = b; rows = n; known = known } → (known ≡ true → getD ws (secondAt b + 3) 0 ≡ z)
+pub refused-step : (ws : List ℕ) (t b n : ℕ) (known : Bool) (z : ℕ) → secondPlace ws t ≡ record { row = b; rows = n; known = known } → (known ≡ true → getD ws (secondAt b + stepsIn) 0 ≡ z)
     → stepRefusal ws t ≡ cond known (cond (ltb z stepsMost) 0 19) (cond (ltb n secondsMost) 0 18)
 unfolding stepRefusal placeRefusal
 refused-step ws t b n true z is r = rw (is, r refl)
@@ -85,23 +89,23 @@ module _ (ws : List ℕ) (a c b n : ℕ) where
 -- ---- the newest change taken back
 
 module _ (ws : List ℕ) where
-  pub step-plan : (x y z : ℕ) → getD ws (newestAt ws + 3) 0 ≡ 1 → getD ws (newestAt ws) 0 ≡ x → getD ws (newestAt ws + 1) 0 ≡ y → getD ws (newestAt ws + 2) 0 ≡ z → stepBack ws ≡ stepRemoved ws x y z
+  pub step-plan : (p : Step) → getD ws (newestAt ws + plannedIn) 0 ≡ 1 → getD ws (newestAt ws) 0 ≡ p .second → getD ws (newestAt ws + draftsIn) 0 ≡ p .drafts → getD ws (newestAt ws + sequencesIn) 0 ≡ p .sequences → stepBack ws ≡ stepRemoved ws p
   unfolding stepBack
-  step-plan x y z e f g h = rw (e, f, g, h)
+  step-plan p e f g h = rw (e, f, g, h)
 
-  pub step-none : getD ws (newestAt ws + 3) 0 ≡ 0 → stepBack ws ≡ ws
+  pub step-none : getD ws (newestAt ws + plannedIn) 0 ≡ 0 → stepBack ws ≡ ws
   unfolding stepBack
   step-none e = rw e
 
-  pub worker-none : getD ws (newestAt ws + 4) 0 ≡ 0 → workerBack ws ≡ ws
+  pub worker-none : getD ws (newestAt ws + kindIn) 0 ≡ 0 → workerBack ws ≡ ws
   unfolding workerBack recordBack
   worker-none e = rw e
 
-  pub worker-new : (a b : ℕ) → getD ws (newestAt ws + 4) 0 ≡ 1 → getD ws (newestAt ws + 5) 0 ≡ a → getD ws (newestAt ws + 6) 0 ≡ b → workerBack ws ≡ workerDropped ws a b
+  pub worker-new : (a b : ℕ) → getD ws (newestAt ws + kindIn) 0 ≡ 1 → getD ws (newestAt ws + workerAIn) 0 ≡ a → getD ws (newestAt ws + workerBIn) 0 ≡ b → workerBack ws ≡ workerDropped ws a b
   unfolding workerBack
   worker-new a b e f g = rw (e, f, g)
 
-  pub worker-old : (a b x y z : ℕ) → getD ws (newestAt ws + 4) 0 ≡ 2 → getD ws (newestAt ws + 5) 0 ≡ a → getD ws (newestAt ws + 6) 0 ≡ b
-      → getD ws (newestAt ws + 7) 0 ≡ x → getD ws (newestAt ws + 8) 0 ≡ y → getD ws (newestAt ws + 9) 0 ≡ z → workerBack ws ≡ workerPut ws a b x y z
+  pub worker-old : (a b x y z : ℕ) → getD ws (newestAt ws + kindIn) 0 ≡ 2 → getD ws (newestAt ws + workerAIn) 0 ≡ a → getD ws (newestAt ws + workerBIn) 0 ≡ b
+      → getD ws (newestAt ws + widthIn) 0 ≡ x → getD ws (newestAt ws + roundsIn) 0 ≡ y → getD ws (newestAt ws + stallIn) 0 ≡ z → workerBack ws ≡ workerPut ws a b x y z
   unfolding workerBack recordBack
   worker-old a b x y z e f g h i j = rw (e, f, g, h, i, j)

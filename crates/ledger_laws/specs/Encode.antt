@@ -9,7 +9,7 @@ use Rattle.ledger_rows.specs.Table.{flat, pad}
 use Rattle.ledger_rows.specs.declared.layout.Past.{Past}
 use Rattle.ledger_rows.specs.Layout.{secondsMost, workersMost, changesMost}
 use Rattle.ledger_workers.specs.Workers.{workerLess, workerSame}
-use Rattle.ledger_changes.specs.Changes.{ten, following}
+use Rattle.ledger_changes.specs.Changes.{changeLaid, noStep, following}
 use Rattle.ledger_laws.specs.Model.{Worker, Switching, Plan, Change, planned, decided, cleared, Sums, more, nothingYet, cleaned, recordOf, Standing}
 
 -- ---- the seconds and the workers that the standing changes give, as lists that ascend
@@ -67,10 +67,10 @@ pastFrom none = record { kind = 1; width = 0; rounds = 0; stall = 0 }
 pastFrom (some r) = record { kind = 2; width = r .width; rounds = r .rounds; stall = r .stall }
 
 unfoldable pub changeWords : Change × Option Switching → List ℕ
-changeWords (planned p, o) = ten (p .second) (p .drafts) (p .sequences) 1 0 0 0 0 0 0
-changeWords (decided p w f, o) = ten (p .second) (p .drafts) (p .sequences) 1 (pastFrom o .kind) (w .0) (w .1) (pastFrom o .width) (pastFrom o .rounds) (pastFrom o .stall)
-changeWords (cleared w, none) = ten 0 0 0 0 0 0 0 0 0 0
-changeWords (cleared w, some r) = ten 0 0 0 0 2 (w .0) (w .1) (r .width) (r .rounds) (r .stall)
+changeWords (planned p, o) = changeLaid p 1 0 0 0 0 0 0
+changeWords (decided p w f, o) = changeLaid p 1 (pastFrom o .kind) (w .0) (w .1) (pastFrom o .width) (pastFrom o .rounds) (pastFrom o .stall)
+changeWords (cleared w, none) = changeLaid noStep 0 0 0 0 0 0 0
+changeWords (cleared w, some r) = changeLaid noStep 0 2 (w .0) (w .1) (r .width) (r .rounds) (r .stall)
 
 -- free slots
 abbrev pub noSecond : ℕ × Sums

@@ -3,10 +3,11 @@
 use mathlib.Core.Bool.{cond}
 use mathlib.Core.List.{List, [], _∷_}
 use mathlib.Core.Option.{Option, none, some}
-use Prim.Native.Nat.{ℕ, suc, _+_, _-_, _≤_, min}
+use Prim.Native.Nat.{ℕ, suc, _+_, _-_, _*_, _≤_, min}
 use lib.Dec.{ltb, eqb}
 use lib.ListN.{drop}
 use Rattle.ledger_rows.specs.Map.{isHeld}
+use Rattle.ledger_rows.specs.declared.layout.Step.{Step as Added}
 use Rattle.ledger_rows.specs.Layout.{secondsMost, workersMost, changesMost, stepsMost}
 use Rattle.ledger_workers.specs.Workers.{workerSame}
 use Rattle.ledger.specs.Calls.{orElse}
@@ -21,10 +22,8 @@ pub record Switching : Type 0 where
   pub stall : ℕ
 
 -- what a plan adds at its second
-pub record Plan : Type 0 where
-  pub second : ℕ
-  pub drafts : ℕ
-  pub sequences : ℕ
+abbrev pub Plan : Type 0
+Plan = Added
 
 -- a change: a plan of no worker, a plan with a worker's decision, which makes its record of the one before, or a worker's stall collected
 pub data Change : Type 0 where
@@ -136,10 +135,11 @@ after (k ∷ ks) s = after ks (step k s)
 abbrev pub nothingStands : Standing
 nothingStands = record { changes = []; left = 0 }
 
--- a plan drafts at most 64 for each of at most 1,024 sequences
+-- a plan has 1 to 1,024 sequences, and drafts at most 64 for each
 pub record Small (p : Plan) : Type 0 where
-  pub drafts-small : p .drafts ≤ 65536
+  pub some-sequences : 1 ≤ p .sequences
   pub sequences-small : p .sequences ≤ 1024
+  pub drafts-small : p .drafts ≤ 64 * p .sequences
 
 unfoldable pub InDomain : List Call → Type 0
 InDomain [] = Unit

@@ -19,8 +19,8 @@ recordIn ws w = recordFrom (pastOf ws (w .0) (w .1))
 
 -- what a call leaves; a decision puts the record that it makes of the one that is held
 unfoldable pub made : Call → List ℕ → List ℕ
-made (plan p) ws = recorded ws (p .second) (p .drafts) (p .sequences) Nothing .1
-made (decide p w f) ws = recorded ws (p .second) (p .drafts) (p .sequences) (Put (w .0) (w .1) (f (recordIn ws w) .width) (f (recordIn ws w) .rounds) (f (recordIn ws w) .stall)) .1
+made (plan p) ws = recorded ws p Nothing .1
+made (decide p w f) ws = recorded ws p (Put (w .0) (w .1) (f (recordIn ws w) .width) (f (recordIn ws w) .rounds) (f (recordIn ws w) .stall)) .1
 made (collect w) ws = collected ws (w .0) (w .1) .1
 made back ws = withdrawn ws .1
 

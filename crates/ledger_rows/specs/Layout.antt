@@ -27,6 +27,38 @@ workerWide = 5
 abbrev pub changeWide : ℕ
 changeWide = 10
 
+-- which word of a second's row has what, behind the second itself; a change has the same first words for what its plan added
+abbrev pub draftsIn : ℕ
+draftsIn = 1
+
+abbrev pub sequencesIn : ℕ
+sequencesIn = 2
+
+abbrev pub stepsIn : ℕ
+stepsIn = 3
+
+-- which word of a change has what, behind those: 1 where it is a plan; the worker's kind, its two numbers, its record from before
+abbrev pub plannedIn : ℕ
+plannedIn = 3
+
+abbrev pub kindIn : ℕ
+kindIn = 4
+
+abbrev pub workerAIn : ℕ
+workerAIn = 5
+
+abbrev pub workerBIn : ℕ
+workerBIn = 6
+
+abbrev pub widthIn : ℕ
+widthIn = 7
+
+abbrev pub roundsIn : ℕ
+roundsIn = 8
+
+abbrev pub stallIn : ℕ
+stallIn = 9
+
 -- where the changes, the workers and the seconds start, and where row i of each starts
 abbrev pub changesFrom : ℕ
 changesFrom = 4

@@ -13,7 +13,8 @@ use Rattle.ledger_rows.specs.Words.{stored, opened, closed, place, searched, la
 use Rattle.ledger_rows.proofs.Tests.{both}
 use Rattle.ledger_rows.proofs.Search.{turn-up, last-within}
 use Rattle.ledger_rows.specs.declared.layout.Place.{Place}
-use Rattle.ledger_rows.specs.Layout.{secondsMost, secondAt, secondsHeld, plus}
+use Rattle.ledger_rows.specs.declared.layout.Step.{Step}
+use Rattle.ledger_rows.specs.Layout.{secondsMost, secondAt, secondsHeld, draftsIn, sequencesIn, stepsIn, plus}
 use Rattle.ledger_seconds.specs.Seconds.{earlierSecond, thatSecond, secondRow, secondPlace, secondRaised, secondInserted, stepAdded, secondLowered, stepRemoved}
 
 -- ---- a turn of the search upward, its step added up once
@@ -92,43 +93,47 @@ module _ (ws : List ℕ) (t : ℕ) where
         → known ≡ cond (ltb row rows) (thatSecond ws t row) false → record { row = row; rows = rows; known = known } ≡ secondPlace ws t
     place-else row known h e s f g = second-place row rows known is (last-else (earlierSecond ws t) (thatSecond ws t) rows row h (le-ltb _ _ e) (ne-eqb _ _ s) f) g
 
-  module _ (drafts sequences : ℕ) (p : Place) (is : p ≡ secondPlace ws t) (last : List ℕ) where
-    pub added-known : p .known ≡ true → last ≡ secondRaised ws (p .row) t drafts sequences → last ≡ stepAdded ws t drafts sequences
+-- ---- a step added and taken away
+
+module _ (ws : List ℕ) (step : Step) where
+  module _ (p : Place) (is : p ≡ secondPlace ws (step .second)) (last : List ℕ) where
+    pub added-known : p .known ≡ true → last ≡ secondRaised ws (p .row) step → last ≡ stepAdded ws step
     unfolding stepAdded
     added-known k e = rw (← is, k) e
 
-    pub added-new : p .known ≡ false → last ≡ secondInserted ws (p .row) (p .rows) t drafts sequences → last ≡ stepAdded ws t drafts sequences
+    pub added-new : p .known ≡ false → last ≡ secondInserted ws (p .row) (p .rows) step → last ≡ stepAdded ws step
     unfolding stepAdded
     added-new k e = rw (← is, k) e
 
-    pub removed-known : p .known ≡ true → last ≡ secondLowered ws (p .row) (p .rows) t drafts sequences → last ≡ stepRemoved ws t drafts sequences
+    pub removed-known : p .known ≡ true → last ≡ secondLowered ws (p .row) (p .rows) step → last ≡ stepRemoved ws step
     unfolding stepRemoved
     removed-known k e = rw (← is, k) e
 
-  module _ (drafts sequences : ℕ) (p : Place) (is : p ≡ secondPlace ws t) where
-    pub removed-unknown : p .known ≡ false → ws ≡ stepRemoved ws t drafts sequences
-    unfolding stepRemoved
-    removed-unknown k = rw (← is, k)
+  pub removed-unknown : (p : Place) → p ≡ secondPlace ws (step .second) → p .known ≡ false → ws ≡ stepRemoved ws step
+  unfolding stepRemoved
+  removed-unknown p is k = rw (← is, k)
 
-  module _ (i drafts sequences : ℕ) (last : List ℕ) where
-    pub raised-done : (d s n : ℕ) → d ≡ plus (getD ws (secondAt i + 1) 0) drafts → s ≡ plus (getD ws (secondAt i + 2) 0) sequences → n ≡ plus (getD ws (secondAt i + 3) 0) 1
-        → last ≡ stored (secondAt i) (t ∷ d ∷ s ∷ n ∷ []) ws → last ≡ secondRaised ws i t drafts sequences
+  module _ (i : ℕ) (last : List ℕ) where
+    pub raised-done : (d s n : ℕ) → d ≡ plus (getD ws (secondAt i + draftsIn) 0) (step .drafts) → s ≡ plus (getD ws (secondAt i + sequencesIn) 0) (step .sequences)
+        → n ≡ plus (getD ws (secondAt i + stepsIn) 0) 1
+        → last ≡ stored (secondAt i) (step .second ∷ d ∷ s ∷ n ∷ []) ws → last ≡ secondRaised ws i step
     unfolding secondRaised
     raised-done d s n e f g l = rw (l, e, f, g)
 
-    pub inserted-done : (n : ℕ) → n < secondsMost → last ≡ opened (secondAt i) (secondAt n) (t ∷ drafts ∷ sequences ∷ 1 ∷ []) ws → set last 0 (n + 1) ≡ secondInserted ws i n t drafts sequences
+    pub inserted-done : (n : ℕ) → n < secondsMost → last ≡ opened (secondAt i) (secondAt n) (step .second ∷ step .drafts ∷ step .sequences ∷ 1 ∷ []) ws
+        → set last 0 (n + 1) ≡ secondInserted ws i n step
     unfolding secondInserted
     inserted-done n few l = rw (lt-ltb n secondsMost few, l)
 
-    pub lowered-some : (n d s : ℕ) → 1 < getD ws (secondAt i + 3) 0 → d ≡ getD ws (secondAt i + 1) 0 - drafts → s ≡ getD ws (secondAt i + 2) 0 - sequences
-        → last ≡ stored (secondAt i) (t ∷ d ∷ s ∷ (getD ws (secondAt i + 3) 0 - 1) ∷ []) ws → last ≡ secondLowered ws i n t drafts sequences
+    pub lowered-some : (n d s : ℕ) → 1 < getD ws (secondAt i + stepsIn) 0 → d ≡ getD ws (secondAt i + draftsIn) 0 - step .drafts → s ≡ getD ws (secondAt i + sequencesIn) 0 - step .sequences
+        → last ≡ stored (secondAt i) (step .second ∷ d ∷ s ∷ (getD ws (secondAt i + stepsIn) 0 - 1) ∷ []) ws → last ≡ secondLowered ws i n step
     unfolding secondLowered
     lowered-some n d s more e f l = rw (lt-ltb _ _ more, l, e, f)
 
-    pub lowered-last : (n : ℕ) → getD ws (secondAt i + 3) 0 ≤ 1 → last ≡ closed (secondAt i) (secondAt (n - 1)) (0 ∷ 0 ∷ 0 ∷ 0 ∷ []) ws → set last 0 (n - 1) ≡ secondLowered ws i n t drafts sequences
+    pub lowered-last : (n : ℕ) → getD ws (secondAt i + stepsIn) 0 ≤ 1 → last ≡ closed (secondAt i) (secondAt (n - 1)) (0 ∷ 0 ∷ 0 ∷ 0 ∷ []) ws → set last 0 (n - 1) ≡ secondLowered ws i n step
     unfolding secondLowered
     lowered-last n one l = rw (le-ltb _ _ one, l)
 
-  pub inserted-full : (i n drafts sequences : ℕ) → secondsMost ≤ n → ws ≡ secondInserted ws i n t drafts sequences
+  pub inserted-full : (i n : ℕ) → secondsMost ≤ n → ws ≡ secondInserted ws i n step
   unfolding secondInserted
-  inserted-full i n drafts sequences many = rw (le-ltb n secondsMost many)
+  inserted-full i n many = rw (le-ltb n secondsMost many)

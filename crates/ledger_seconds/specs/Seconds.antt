@@ -6,7 +6,8 @@ use lib.Dec.{ltb, eqb}
 use lib.ListN.{getD, set}
 use Rattle.ledger_rows.specs.Words.{stored, opened, closed, lastFirst}
 use Rattle.ledger_rows.specs.declared.layout.Place.{Place}
-use Rattle.ledger_rows.specs.Layout.{secondsMost, secondAt, secondsHeld, plus}
+use Rattle.ledger_rows.specs.declared.layout.Step.{Step}
+use Rattle.ledger_rows.specs.Layout.{secondsMost, secondAt, secondsHeld, draftsIn, sequencesIn, stepsIn, plus}
 
 -- row i is of an earlier second, and of that second
 abbrev pub earlierSecond : List ℕ → ℕ → ℕ → Bool
@@ -26,26 +27,30 @@ secondPlace ws t = record {
   known = cond (ltb (secondRow ws t) (secondsHeld ws)) (thatSecond ws t (secondRow ws t)) false;
 }
 
--- row i, of second t, with one step more; a new row before row i of n, unless as many are held as there may be
-unfoldable pub secondRaised : List ℕ → ℕ → ℕ → ℕ → ℕ → List ℕ
-secondRaised ws i t drafts sequences =
-    stored (secondAt i) (t ∷ plus (getD ws (secondAt i + 1) 0) drafts ∷ plus (getD ws (secondAt i + 2) 0) sequences ∷ plus (getD ws (secondAt i + 3) 0) 1 ∷ []) ws
+-- row i, of the step's second, with that step more; a new row before row i of n, unless as many are held as there may be
+unfoldable pub secondRaised : List ℕ → ℕ → Step → List ℕ
+secondRaised ws i p =
+    stored (secondAt i)
+    (p .second ∷ plus (getD ws (secondAt i + draftsIn) 0) (p .drafts) ∷ plus (getD ws (secondAt i + sequencesIn) 0) (p .sequences) ∷ plus (getD ws (secondAt i + stepsIn) 0) 1 ∷ [])
+    ws
 
-unfoldable pub secondInserted : List ℕ → ℕ → ℕ → ℕ → ℕ → ℕ → List ℕ
-secondInserted ws i n t drafts sequences =
-    cond (ltb n secondsMost) (set (opened (secondAt i) (secondAt n) (t ∷ drafts ∷ sequences ∷ 1 ∷ []) ws) 0 (n + 1)) ws
+unfoldable pub secondInserted : List ℕ → ℕ → ℕ → Step → List ℕ
+secondInserted ws i n p =
+    cond (ltb n secondsMost) (set (opened (secondAt i) (secondAt n) (p .second ∷ p .drafts ∷ p .sequences ∷ 1 ∷ []) ws) 0 (n + 1)) ws
 
-unfoldable pub stepAdded : List ℕ → ℕ → ℕ → ℕ → List ℕ
-stepAdded ws t drafts sequences =
-    cond (secondPlace ws t .known) (secondRaised ws (secondPlace ws t .row) t drafts sequences) (secondInserted ws (secondPlace ws t .row) (secondPlace ws t .rows) t drafts sequences)
+unfoldable pub stepAdded : List ℕ → Step → List ℕ
+stepAdded ws p =
+    cond (secondPlace ws (p .second) .known) (secondRaised ws (secondPlace ws (p .second) .row) p) (secondInserted ws (secondPlace ws (p .second) .row) (secondPlace ws (p .second) .rows) p)
 
--- row i of n, of second t, with one step less, and gone with its last
-unfoldable pub secondLowered : List ℕ → ℕ → ℕ → ℕ → ℕ → ℕ → List ℕ
-secondLowered ws i n t drafts sequences =
-    cond (ltb 1 (getD ws (secondAt i + 3) 0))
-    (stored (secondAt i) (t ∷ (getD ws (secondAt i + 1) 0 - drafts) ∷ (getD ws (secondAt i + 2) 0 - sequences) ∷ (getD ws (secondAt i + 3) 0 - 1) ∷ []) ws)
+-- row i of n, of the step's second, with that step less, and gone with its last
+unfoldable pub secondLowered : List ℕ → ℕ → ℕ → Step → List ℕ
+secondLowered ws i n p =
+    cond (ltb 1 (getD ws (secondAt i + stepsIn) 0))
+    (stored (secondAt i)
+    (p .second ∷ (getD ws (secondAt i + draftsIn) 0 - p .drafts) ∷ (getD ws (secondAt i + sequencesIn) 0 - p .sequences) ∷ (getD ws (secondAt i + stepsIn) 0 - 1) ∷ [])
+    ws)
     (set (closed (secondAt i) (secondAt (n - 1)) (0 ∷ 0 ∷ 0 ∷ 0 ∷ []) ws) 0 (n - 1))
 
-unfoldable pub stepRemoved : List ℕ → ℕ → ℕ → ℕ → List ℕ
-stepRemoved ws t drafts sequences =
-    cond (secondPlace ws t .known) (secondLowered ws (secondPlace ws t .row) (secondPlace ws t .rows) t drafts sequences) ws
+unfoldable pub stepRemoved : List ℕ → Step → List ℕ
+stepRemoved ws p =
+    cond (secondPlace ws (p .second) .known) (secondLowered ws (secondPlace ws (p .second) .row) (secondPlace ws (p .second) .rows) p) ws

@@ -1,16 +1,20 @@
 // The seconds held, ascending, each with its sums.
 use ledger_rows::inner;
+use ledger_rows::layout::DRAFTS;
 use ledger_rows::layout::Place;
 use ledger_rows::layout::SECOND;
 use ledger_rows::layout::SECONDS;
 use ledger_rows::layout::SECONDS_MOST;
+use ledger_rows::layout::SEQUENCES;
+use ledger_rows::layout::STEPS;
+use ledger_rows::layout::Step;
 ghost use mathlib.Core.Path.{_≡_};
 ghost use mathlib.Core.Bool.{cond, false};
 ghost use Prim.Native.Nat.{_+_, _-_, _≤_, _<_};
 ghost use lib.Dec.{ltb};
 ghost use lib.ListN.{length, getD};
 ghost use Rattle.ledger_rows.specs.Words.{searched};
-ghost use Rattle.ledger_rows.specs.Layout.{room, secondWide, secondsMost, secondsHeld, secondAt, plus};
+ghost use Rattle.ledger_rows.specs.Layout.{room, secondWide, secondsMost, secondsHeld, secondAt, stepsIn, plus};
 ghost use Rattle.ledger_seconds.specs.Seconds.{earlierSecond, thatSecond, secondPlace, secondRaised, secondInserted, stepAdded, secondLowered, stepRemoved};
 
 const LARGEST: u64 = 0xffff_ffff_ffff_ffff;
@@ -96,10 +100,10 @@ pub fn place(words: &[u64], second: u64) -> Place
 // The steps of row `row`.
 pub fn steps(words: &[u64], row: usize) -> u64
     requires { ⌜ (row < secondsMost) × (room ≤ length (now words)) ⌝ }
-    ensures { λ r. ⌜ r ≡ getD (now (words .entry)) (secondAt row + 3) 0 ⌝ }
+    ensures { λ r. ⌜ r ≡ getD (now (words .entry)) (secondAt row + stepsIn) 0 ⌝ }
 {
     let at = SECONDS + SECOND * row;
-    words[at + 3]
+    words[at + STEPS]
 }
 
 // A sum that stops at the largest word.
@@ -117,58 +121,58 @@ fn rest_of(x: u64, y: u64) -> u64
     if y <= x { x - y } else { 0 }
 }
 
-// Row `row`, of `second`, with one step more.
-fn raise(words: &mut [u64], row: usize, second: u64, drafts: u64, sequences: u64)
+// Row `row`, of the step's second, with that step more.
+fn raise(words: &mut [u64], row: usize, step: Step)
     requires { ⌜ secondAt row + secondWide ≤ length (now words) ⌝ }
-    ensures { λ _. ⌜ now (words .exit) ≡ secondRaised (now (words .entry)) row second drafts sequences ⌝ }
+    ensures { λ _. ⌜ now (words .exit) ≡ secondRaised (now (words .entry)) row step ⌝ }
 {
     let at = SECONDS + SECOND * row;
-    let more_drafts = sum_of(words[at + 1], drafts);
-    let more_sequences = sum_of(words[at + 2], sequences);
-    let more_steps = sum_of(words[at + 3], 1);
-    let more = [second, more_drafts, more_sequences, more_steps];
+    let more_drafts = sum_of(words[at + DRAFTS], step.drafts);
+    let more_sequences = sum_of(words[at + SEQUENCES], step.sequences);
+    let more_steps = sum_of(words[at + STEPS], 1);
+    let more = [step.second, more_drafts, more_sequences, more_steps];
     inner::put(words, at, &more);
 }
 
 // A new row before row `row` of `rows`, unless as many are held as there may be.
-fn insert(words: &mut [u64], row: usize, rows: usize, second: u64, drafts: u64, sequences: u64)
+fn insert(words: &mut [u64], row: usize, rows: usize, step: Step)
     requires { ⌜ (row ≤ rows) × (room ≤ length (now words)) ⌝ }
-    ensures { λ _. ⌜ now (words .exit) ≡ secondInserted (now (words .entry)) row rows second drafts sequences ⌝ }
+    ensures { λ _. ⌜ now (words .exit) ≡ secondInserted (now (words .entry)) row rows step ⌝ }
 {
     if rows < SECONDS_MOST {
         let from = SECONDS + SECOND * row;
         let end = SECONDS + SECOND * rows;
-        let new = [second, drafts, sequences, 1];
+        let new = [step.second, step.drafts, step.sequences, 1];
         inner::put_in(words, from, end, &new);
         words[0] = (rows + 1) as u64;
     }
 }
 
-// The sums of `second`, whose place was found, with one step more; a second that is not held is put in there.
-pub fn add_step(words: &mut [u64], found: Place, second: u64, drafts: u64, sequences: u64)
-    requires { ⌜ (found ≡ secondPlace (now words) second) × (room ≤ length (now words)) ⌝ }
-    ensures { λ _. ⌜ now (words .exit) ≡ stepAdded (now (words .entry)) second drafts sequences ⌝ }
+// The sums of the step's second, whose place was found, with that step more; a second that is not held is put in there.
+pub fn add_step(words: &mut [u64], found: Place, step: Step)
+    requires { ⌜ (found ≡ secondPlace (now words) (step .second)) × (room ≤ length (now words)) ⌝ }
+    ensures { λ _. ⌜ now (words .exit) ≡ stepAdded (now (words .entry)) step ⌝ }
 {
     let row = found.row;
     let rows = found.rows;
     if found.known {
-        raise(words, row, second, drafts, sequences);
+        raise(words, row, step);
     } else {
-        insert(words, row, rows, second, drafts, sequences);
+        insert(words, row, rows, step);
     }
 }
 
-// Row `row` of `rows`, of `second`, with one step less, and gone with its last.
-fn lower(words: &mut [u64], row: usize, rows: usize, second: u64, drafts: u64, sequences: u64)
+// Row `row` of `rows`, of the step's second, with that step less, and gone with its last.
+fn lower(words: &mut [u64], row: usize, rows: usize, step: Step)
     requires { ⌜ (row < rows) × (rows ≤ secondsMost) × (room ≤ length (now words)) ⌝ }
-    ensures { λ _. ⌜ now (words .exit) ≡ secondLowered (now (words .entry)) row rows second drafts sequences ⌝ }
+    ensures { λ _. ⌜ now (words .exit) ≡ secondLowered (now (words .entry)) row rows step ⌝ }
 {
     let at = SECONDS + SECOND * row;
-    let steps = words[at + 3];
+    let steps = words[at + STEPS];
     if 1 < steps {
-        let less_drafts = rest_of(words[at + 1], drafts);
-        let less_sequences = rest_of(words[at + 2], sequences);
-        let less = [second, less_drafts, less_sequences, steps - 1];
+        let less_drafts = rest_of(words[at + DRAFTS], step.drafts);
+        let less_sequences = rest_of(words[at + SEQUENCES], step.sequences);
+        let less = [step.second, less_drafts, less_sequences, steps - 1];
         inner::put(words, at, &less);
     } else {
         let end = SECONDS + SECOND * (rows - 1);
@@ -179,14 +183,14 @@ fn lower(words: &mut [u64], row: usize, rows: usize, second: u64, drafts: u64, s
 }
 
 // What a step added is taken away again from its second, if that is held.
-pub fn remove_step(words: &mut [u64], second: u64, drafts: u64, sequences: u64)
+pub fn remove_step(words: &mut [u64], step: Step)
     requires { ⌜ room ≤ length (now words) ⌝ }
-    ensures { λ _. ⌜ now (words .exit) ≡ stepRemoved (now (words .entry)) second drafts sequences ⌝ }
+    ensures { λ _. ⌜ now (words .exit) ≡ stepRemoved (now (words .entry)) step ⌝ }
 {
-    let found = place(words, second);
+    let found = place(words, step.second);
     let row = found.row;
     let rows = found.rows;
     if found.known {
-        lower(words, row, rows, second, drafts, sequences);
+        lower(words, row, rows, step);
     }
 }

@@ -6,7 +6,7 @@ use lib.Dec.{eqb}
 use lib.Ieee.{Float}
 use lib.ListN.{length, getD, drop}
 use Rattle.float.specs.Floats.{f0, plus, over, whole}
-use Rattle.ledger_rows.specs.Layout.{secondAt}
+use Rattle.ledger_rows.specs.Layout.{secondAt, draftsIn, sequencesIn, stepsIn}
 use Rattle.ledger_series.specs.declared.DepthSample.{DepthSample}
 
 -- a sum divided once by a count, which is taken as 1 where it is 0
@@ -18,10 +18,10 @@ unfoldable pub secondOf : List ℕ → ℕ → ℕ
 secondOf ws i = getD ws (secondAt i) 0
 
 unfoldable pub meanDraft : List ℕ → ℕ → Float
-meanDraft ws i = meanOf (getD ws (secondAt i + 1) 0) (getD ws (secondAt i + 2) 0)
+meanDraft ws i = meanOf (getD ws (secondAt i + draftsIn) 0) (getD ws (secondAt i + sequencesIn) 0)
 
 unfoldable pub meanBatch : List ℕ → ℕ → Float
-meanBatch ws i = meanOf (getD ws (secondAt i + 2) 0) (getD ws (secondAt i + 3) 0)
+meanBatch ws i = meanOf (getD ws (secondAt i + sequencesIn) 0) (getD ws (secondAt i + stepsIn) 0)
 
 abbrev pub sampleAt : List ℕ → ℕ → DepthSample
 sampleAt ws i = record { second = secondOf ws i; «mean_draft» = meanDraft ws i; «mean_decode_batch» = meanBatch ws i }

@@ -1,7 +1,10 @@
 // A row of the seconds as a sample, and many. Callers keep the storage long enough, and the buffers.
 use crate::DepthSample;
+use ledger_rows::layout::DRAFTS;
 use ledger_rows::layout::SECOND;
 use ledger_rows::layout::SECONDS;
+use ledger_rows::layout::SEQUENCES;
+use ledger_rows::layout::STEPS;
 ghost use mathlib.Core.Path.{_≡_};
 ghost use Prim.Native.Nat.{_≤_, _<_, max};
 ghost use lib.ListN.{length, set};
@@ -31,9 +34,9 @@ fn sample(words: &[u64], row: usize) -> DepthSample
 {
     let at = SECONDS + SECOND * row;
     let second = words[at];
-    let drafts = words[at + 1];
-    let sequences = words[at + 2];
-    let steps = words[at + 3];
+    let drafts = words[at + DRAFTS];
+    let sequences = words[at + SEQUENCES];
+    let steps = words[at + STEPS];
     let mean_draft = mean(drafts, sequences);
     let mean_decode_batch = mean(sequences, steps);
     DepthSample {

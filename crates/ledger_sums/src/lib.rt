@@ -2,9 +2,12 @@
 pub mod answer;
 
 use crate::answer::Sums;
+use ledger_rows::layout::DRAFTS;
 use ledger_rows::layout::ROOM;
 use ledger_rows::layout::SECOND;
 use ledger_rows::layout::SECONDS;
+use ledger_rows::layout::SEQUENCES;
+use ledger_rows::layout::STEPS;
 ghost use mathlib.Core.Path.{_≡_};
 ghost use Rattle.ledger_sums.specs.Sums.{sumsOf};
 
@@ -21,9 +24,9 @@ pub fn sums(storage: &[u64], row: u64) -> Sums
     }
     let at = SECONDS + SECOND * row as usize;
     let second = storage[at];
-    let drafts = storage[at + 1];
-    let sequences = storage[at + 2];
-    let steps = storage[at + 3];
+    let drafts = storage[at + DRAFTS];
+    let sequences = storage[at + SEQUENCES];
+    let steps = storage[at + STEPS];
     Sums::Of {
         second,
         drafts,

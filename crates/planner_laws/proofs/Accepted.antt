@@ -4,7 +4,7 @@ use mathlib.Core.Bool.{Bool, true, false, _&&_, cond}
 use mathlib.Core.List.{List}
 use Prim.Native.Nat.{ℕ, zero, suc, _≤_}
 use native.Mathlib.Omega.{arith}
-use borrow.Author.Tests.{leb-true}
+use borrow.Author.Tests.{leb-true, eqb-false}
 use lib.Dec.{leb, eqb}
 use Rattle.refusals.specs.Refusals.{firstOf}
 use Rattle.numeral.specs.Moment.{secondOf}
@@ -70,11 +70,16 @@ sizes-gamma model gamma n depth rounds source rows e =
 -- ---- what was passed
 pub record Passed (s : Settings) (a : Ask) (l : Lent) (cs : List Change) : Type 0 where
   pub gamma-most : s .gamma ≤ 64
+  pub sequences-some : 1 ≤ a .sequences
   pub sequences-most : a .sequences ≤ 1024
   pub costs-pass : costsValued s a l ≡ true
   pub values-pass : policyValued (s .policy) (s .model) (s .switch) (gammaIn s (a .depth)) (l .bankCurve) (pastFrom (recordOf (workerIn s a l) cs)) ≡ true
   pub worker-passes : cond (isPut s a l (s .policy)) (workerRule (workerIn s a l) cs) 0 ≡ 0
   pub step-passes : stepRule (secondOf (a .end)) cs ≡ 0
+
+not-zero : (n : ℕ) → (n ≡ 0 → ⊥) → 1 ≤ n
+not-zero zero h = absurd (h refl)
+not-zero (suc n) h = omega arith
 
 module _ (s : Settings) (a : Ask) (l : Lent) (drafts commits : ℕ) (cs : List Change) where
   unless-plan : (n : ℕ) (answer : Planned) → isPlan (answerUnless s a l drafts commits cs n answer) ≡ true → (n ≡ 0) × (isPlan answer ≡ true)
@@ -97,9 +102,18 @@ module _ (s : Settings) (a : Ask) (l : Lent) (drafts commits : ℕ) (cs : List C
       let two = unless-empty (eqb (a .sequences) 0) _ (one .1) in
       unless-plan (refusalOn s a l drafts commits cs) _ (two .1) .0
 
-  pub passed : refusalOn s a l drafts commits cs ≡ 0 → Passed s a l cs
+  -- and there is a sequence
+  pub some-asked : isPlan (answerOn s a l drafts commits cs) ≡ true → 1 ≤ a .sequences
+  unfolding answerOn
+  some-asked e =
+      let one = unless-plan (settingsRefusal s (l .positions)) _ e in
+      let two = unless-empty (eqb (a .sequences) 0) _ (one .1) in
+      let none : a .sequences ≡ 0 → ⊥ = eqb-false (a .sequences) 0 (two .0) in
+      not-zero (a .sequences) none
+
+  pub passed : 1 ≤ a .sequences → refusalOn s a l drafts commits cs ≡ 0 → Passed s a l cs
   unfolding refusalOn
-  passed e =
+  passed some e =
       let sizes : ℕ = sizesRefusal (s .model) (s .gamma) (a .sequences) (a .depth) (a .rounds) (a .source) (a .rows) in
       let rooms : ℕ = roomsRefusal s a (lengthsOf l room drafts commits) in
       let refused : ℕ = valuesRefusal s a l (pastFrom (recordOf (workerIn s a l) cs)) in
@@ -110,6 +124,7 @@ module _ (s : Settings) (a : Ask) (l : Lent) (drafts commits : ℕ) (cs : List C
       let values = values-hold (pastFrom (recordOf (workerIn s a l) cs)) (none .1) in
       record {
         gamma-most = most .0;
+        sequences-some = some;
         sequences-most = most .1;
         costs-pass = values .0;
         values-pass = values .1;

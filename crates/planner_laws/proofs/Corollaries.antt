@@ -8,7 +8,6 @@ use native.Mathlib.Omega.{arith}
 use lib.Dec.{ltb, eqb}
 use lib.Ieee.{Float}
 use lib.ListN.{drop, replicate}
-use Rattle.numeral.specs.Moment.{secondOf}
 use Rattle.acceptance.specs.declared.AcceptanceModel.{AcceptanceModel}
 use Rattle.acceptance.specs.declared.AcceptanceModel.the-variants.{Constant, PerPosition, Trace}
 use Rattle.speculative.specs.declared.drafter.Rates.{Rates}
@@ -31,9 +30,10 @@ use Rattle.rounds.specs.declared.drawing.Drawn.the-variants.{Used, Refused as N
 use Rattle.asked_rooms.specs.declared.Ask.{Ask}
 use Rattle.asking.specs.Asked.{Lent, askedRefusal, valuesRefusal}
 use Rattle.asked_rooms.specs.Rooms.{roomsRefusal}
-use Rattle.deciding.specs.Deciding.{Decided, chainsIn, bestIn, decidedBy, totalOf}
+use Rattle.deciding.specs.Deciding.{Decided, chainsIn, bestIn, decidedBy}
 use Rattle.judged_plans.specs.declared.Planned.{Planned}
 use Rattle.judged_plans.specs.declared.Planned.the-variants.{Plan, Empty, Refused}
+use Rattle.planning.specs.Acting.{stepOf}
 use Rattle.planner.specs.Plan.{Left, curveOf, drawnBy, drawn, signalsRefusal, best, planRefusal, made, unlessRefused, nothingPlanned, planned}
 use Rattle.planner_laws.proofs.Gated.{gate-weighed}
 
@@ -48,7 +48,7 @@ module _ (s : Settings) (a : Ask) (l : Lent) (ws ds cs : List ℕ) where
     pub draws-are : drawn s a l .answer ≡ Used used
     pub weighed-are : weighed ≡ decision .weighed
     -- the storage has the step and the change; drafts and commits stand at the fronts
-    pub storage-is : left .storage ≡ recorded ws (secondOf (a .end)) (totalOf (decision .drafts)) (a .sequences) (decision .change) .1
+    pub storage-is : left .storage ≡ recorded ws (stepOf a (decision .drafts)) (decision .change) .1
     pub drafts-are : left .drafts ≡ decision .drafts ++ drop (a .sequences) ds
     pub commits-are : left .commits ≡ drawn s a l .commits ++ drop (a .sequences) cs
 

@@ -1,4 +1,4 @@
--- WHAT AN ACCEPTED PLAN DRAFTS IS SMALL: at most 64 for each of at most 1,024 sequences. The best depth and every candidate are depths of the price curve, no
+-- WHAT AN ACCEPTED PLAN DRAFTS IS SMALL: at most 64 for each of 1 to 1,024 sequences. The best depth and every candidate are depths of the price curve, no
 -- width of a gate is above its chain's length, and the record that switching starts from was judged. Assumes nothing.
 use mathlib.Core.Path.{_≡_}
 use mathlib.Core.Bool.{true, false, cond}
@@ -124,6 +124,7 @@ drafts-narrow s a l cs h = by-policy s a l (h .gamma-most) (s .policy) _ (h .val
 
 pub step-small : (s : Settings) (a : Ask) (l : Lent) (cs : List Change) → Passed s a l cs → Small (stepOn s a l (recordOf (workerIn s a l) cs))
 step-small s a l cs h = record {
-  drafts-small = omega (arith, total-narrow 64 _ (a .sequences) (drafts-narrow s a l cs h), h .sequences-most);
+  some-sequences = h .sequences-some;
   sequences-small = h .sequences-most;
+  drafts-small = omega (arith, total-narrow 64 _ (a .sequences) (drafts-narrow s a l cs h));
 }

@@ -20,7 +20,7 @@ use Rattle.speculative.specs.Drafter.{isDrafter, drafterRefusal}
 use Rattle.float.specs.Floats.{f0}
 use Rattle.float.specs.Range.{inRange}
 use Rattle.switch_settings.specs.Switch.{mostCost, isUnconstrained, switchRefusal}
-use Rattle.ledger_rows.specs.Layout.{secondsMost, workersMost, stepsMost, secondAt, room}
+use Rattle.ledger_rows.specs.Layout.{secondsMost, workersMost, stepsMost, secondAt, room, stepsIn}
 use Rattle.ledger_rows.proofs.Tests.{by-test, not-both}
 use Rattle.ledger_acts.specs.Acts.{placeRefusal, stepRefusal, workerRefusal}
 use Rattle.ledger_seconds.specs.Seconds.{secondPlace}
@@ -138,7 +138,7 @@ module _ (P : ℕ → Type 0) where
       step-numbers : (ws : List ℕ) (t : ℕ) → P (stepJudged ws t)
       unfolding stepJudged stepRefusal placeRefusal
       step-numbers ws t =
-          let few : Bool = ltb (getD ws (secondAt (secondPlace ws t .row) + 3) 0) stepsMost in
+          let few : Bool = ltb (getD ws (secondAt (secondPlace ws t .row) + stepsIn) 0) stepsMost in
           let free : Bool = ltb (secondPlace ws t .rows) secondsMost in
           either (ltb (length ws) room) 16 (stepRefusal ws t) (n .sixteen)
           (either (secondPlace ws t .known) (cond few 0 19) (cond free 0 18) (either few 0 19 (n .none) (n .nineteen)) (either free 0 18 (n .none) (n .eighteen)))

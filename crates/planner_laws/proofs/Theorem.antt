@@ -29,7 +29,7 @@ use Rattle.asking.specs.Asked.{Lent}
 use Rattle.planner.specs.Plan.{Left, isPut}
 use Rattle.planner_laws.specs.Calls.{Call, plan, collect, withdraw, leaves, run}
 use Rattle.planner_laws.specs.Standing.{workerIn, changeOn, answerOn, isPlan, Standing, nothingStands, given, ledgerOf, stands, step, after}
-use Rattle.planner_laws.proofs.Accepted.{Passed, accepted, passed}
+use Rattle.planner_laws.proofs.Accepted.{Passed, accepted, some-asked, passed}
 use Rattle.planner_laws.proofs.Drafts.{step-small}
 use Rattle.planner_laws.proofs.Words.{plan-by-rules, plan-stands}
 
@@ -47,7 +47,7 @@ pub record Holds (S : Standing) : Type 0 where
   pub there : S .left ≤ length (S .changes)
 
 pub plan-passes : (s : Settings) (a : Ask) (l : Lent) (drafts commits : ℕ) (cs : List Change) → isPlan (answerOn s a l drafts commits cs) ≡ true → Passed s a l cs
-plan-passes s a l drafts commits cs e = passed s a l drafts commits cs (accepted s a l drafts commits cs e)
+plan-passes s a l drafts commits cs e = passed s a l drafts commits cs (some-asked s a l drafts commits cs e) (accepted s a l drafts commits cs e)
 
 plan-sound : (s : Settings) (a : Ask) (l : Lent) (cs : List Change) → Passed s a l cs → Sound cs → Sound (changeOn s a l (recordOf (workerIn s a l) cs) ∷ cs)
 unfolding changeOn Sound

@@ -35,9 +35,10 @@ use Rattle.asked_rooms.specs.declared.Ask.{Ask}
 use Rattle.asked_rooms.specs.declared.Lengths.{Lengths}
 use Rattle.asking.specs.Asked.{Lent, lengthsOf, askedRefusal}
 use Rattle.asked_rooms.specs.Rooms.{priceRooms, loadedRoom, signalRooms, bankRooms, roomsRefusal}
-use Rattle.deciding.specs.Deciding.{Decided, decidedBy, totalOf}
+use Rattle.deciding.specs.Deciding.{Decided, decidedBy}
 use Rattle.judged_plans.specs.declared.Planned.{Planned}
 use Rattle.judged_plans.specs.declared.Planned.the-variants.{Empty}
+use Rattle.planning.specs.Acting.{stepOf}
 use Rattle.planner.specs.Plan.{Left, curveOf, drawn, best, isPut, planRefusal, made, unlessRefused, nothingPlanned, planned}
 use Rattle.planner_laws.specs.Standing.{planAnswer, workerIn, decisionOn, stepOn, newRecord, changeOn, refusalOn, answerUnless, answerOn, isPlan}
 use Rattle.planner_laws.proofs.Accepted.{Passed}
@@ -93,7 +94,7 @@ module _ (s : Settings) (a : Ask) (l : Lent) (ws ds cs : List ℕ) where
 
     parts : (first : ℕ) (empty : Bool) (second : ℕ) (draws : Drawn) (d : Decided) → leftBy first empty second draws d ≡ record {
       answer = answerBy first empty second draws d;
-      storage = cond (isPlan (answerBy first empty second draws d)) (recorded ws (secondOf (a .end)) (totalOf (d .drafts)) (a .sequences) (d .change) .1) ws;
+      storage = cond (isPlan (answerBy first empty second draws d)) (recorded ws (stepOf a (d .drafts)) (d .change) .1) ws;
       drafts = cond (isPlan (answerBy first empty second draws d)) (d .drafts ++ drop (a .sequences) ds) ds;
       commits = cond (isPlan (answerBy first empty second draws d)) (drawn s a l .commits ++ drop (a .sequences) cs) cs;
     }
@@ -129,7 +130,7 @@ module _ (s : Settings) (a : Ask) (l : Lent) (S : Ledger) (rest : List ℕ) (r :
     -- the answer, the drafts and the commits are those of the rules; only an accepted plan changes anything
     pub plan-by-rules : planned s a l E ds cs ≡ record {
       answer = answerOn s a l (length ds) (length cs) (S .changes);
-      storage = cond (isPlan (answerOn s a l (length ds) (length cs) (S .changes))) (recorded E (secondOf (a .end)) (totalOf (decisionOn s a l o .drafts)) (a .sequences) (decisionOn s a l o .change) .1) E;
+      storage = cond (isPlan (answerOn s a l (length ds) (length cs) (S .changes))) (recorded E (stepOn s a l o) (decisionOn s a l o .change) .1) E;
       drafts = cond (isPlan (answerOn s a l (length ds) (length cs) (S .changes))) (decisionOn s a l o .drafts ++ drop (a .sequences) ds) ds;
       commits = cond (isPlan (answerOn s a l (length ds) (length cs) (S .changes))) (drawn s a l .commits ++ drop (a .sequences) cs) cs;
     }
@@ -162,7 +163,7 @@ module _ (s : Settings) (a : Ask) (l : Lent) (S : Ledger) (rest : List ℕ) (r :
 
   -- the words after an accepted plan
   pub plan-stands : Passed s a l (S .changes)
-      → recorded E (secondOf (a .end)) (totalOf (decisionOn s a l o .drafts)) (a .sequences) (decisionOn s a l o .change) .1
+      → recorded E (stepOn s a l o) (decisionOn s a l o .change) .1
       ≡ encode (record { changes = changeOn s a l o ∷ S .changes; left = min (S .left + 1) changesMost }) rest
   unfolding changeOn
   plan-stands h = rw (change-by (s .policy)) (by-test (isPut s a l (s .policy))

@@ -22,9 +22,10 @@ use Rattle.asked_rooms.specs.declared.Ask.{Ask}
 use Rattle.asking.specs.Asked.{Lent, lengthsOf, valuesRefusal}
 use Rattle.asked_rooms.specs.Sizes.{sizesRefusal}
 use Rattle.asked_rooms.specs.Rooms.{roomsRefusal}
-use Rattle.deciding.specs.Deciding.{Decided, toward, bestIn, decidedBy, totalOf}
+use Rattle.deciding.specs.Deciding.{Decided, toward, bestIn, decidedBy}
 use Rattle.judged_plans.specs.declared.Planned.{Planned}
 use Rattle.judged_plans.specs.declared.Planned.the-variants.{Plan, Empty, Refused}
+use Rattle.planning.specs.Acting.{stepOf}
 use Rattle.planner.specs.Plan.{curveOf, drawn, drawnRefusal, signalsRefusal, best, isPut}
 use Rattle.planner_laws.specs.Calls.{Call, plan, collect, withdraw}
 
@@ -47,9 +48,9 @@ module _ (s : Settings) (a : Ask) (l : Lent) where
   abbrev pub decisionOn : Option Switching → Decided
   decisionOn o = decidedBy (best s a l) s a l (curveOf s a l) (s .policy) (pastFrom o)
 
-  -- what is added at the second in which its step ends
+  -- what is added at the second in which its step ends: the drafts and the sequences
   abbrev pub stepOn : Option Switching → Step
-  stepOn o = record { second = secondOf (a .end); drafts = totalOf (decisionOn o .drafts); sequences = a .sequences }
+  stepOn o = stepOf a (decisionOn o .drafts)
 
   -- what switching makes of the worker's record
   abbrev pub newRecord : Option Switching → Switching

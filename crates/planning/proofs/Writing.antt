@@ -15,6 +15,7 @@ use Rattle.switch_settings.specs.Switch.{isUnconstrained}
 use Rattle.switch_settings.specs.declared.SwitchConstraints.{SwitchConstraints}
 use Rattle.ledger_rows.specs.Layout.{room}
 use Rattle.ledger_rows.specs.declared.layout.Past.{Past}
+use Rattle.ledger_rows.specs.declared.layout.Step.{Step}
 use Rattle.ledger_rows.proofs.Tests.{by-test}
 use Rattle.ledger_workers.specs.Workers.{pastOf}
 use Rattle.ledger_acts.specs.Acts.{plainDone, decidedDone}
@@ -58,13 +59,13 @@ has-room ws t z = by-test (ltb (length ws) room)
     (λ l. let q : _≡_ {A = ℕ} 16 0 = rw l at z in absurd (let w : ⊥ = omega arith in w))
     (λ l. ltb-false (length ws) room l)
 
-module _ (ws : List ℕ) (t drafts sequences : ℕ) (change : Decision) (out : List ℕ) (z : stepJudged ws t ≡ 0) where
-  pub kept-plain : change ≡ Nothing → out ≡ plainDone ws t drafts sequences → out ≡ recorded ws t drafts sequences change .1
+module _ (ws : List ℕ) (step : Step) (change : Decision) (out : List ℕ) (z : stepJudged ws (step .second) ≡ 0) where
+  pub kept-plain : change ≡ Nothing → out ≡ plainDone ws step → out ≡ recorded ws step change .1
   unfolding recorded
   kept-plain e h = rw (e, z) h
 
   pub kept-put : (a b width rounds stall : ℕ) → change ≡ Put a b width rounds stall → changeJudged ws change ≡ 0
-      → out ≡ decidedDone ws t drafts sequences a b width rounds stall (pastOf ws a b) → out ≡ recorded ws t drafts sequences change .1
+      → out ≡ decidedDone ws step a b width rounds stall (pastOf ws a b) → out ≡ recorded ws step change .1
   unfolding recorded
   kept-put a b width rounds stall e j h =
       let w : workerJudged ws a b ≡ 0 = sym (ap (changeJudged ws) e) ∙ j in
@@ -114,6 +115,7 @@ module _ (s : Settings) (a : Ask) (l : Lent) (ws drafts : List ℕ) (j : Judged 
     pub change-judged : changeJudged ws (d .change) ≡ 0
     change-judged = ap (λ (x : Decided). changeJudged ws (x .change)) h ∙ change-fits _ s a l (curveOf s a l) (s .policy) past ws (j .worker)
 
-    pub acted-is : (total second : ℕ) (storage : List ℕ) → total ≡ totalOf (d .drafts) → second ≡ secondOf (a .end) → storage ≡ recorded ws second total (a .sequences) (d .change) .1
+    pub acted-is : (total second : ℕ) (storage : List ℕ) → total ≡ totalOf (d .drafts) → second ≡ secondOf (a .end)
+        → storage ≡ recorded ws (record { second = second; drafts = total; sequences = a .sequences }) (d .change) .1
         → record { weighed = d .weighed; drafts = d .drafts; storage = storage } ≡ actedBy a ws (decidedPriced s a l (pastOf ws (a .a) (a .b)))
     acted-is total second storage t u k = rw (k, t, u) (ap (actedBy a ws) decided-same)

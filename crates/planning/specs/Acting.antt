@@ -11,6 +11,7 @@ use Rattle.cost_rows.specs.Order.{ordered}
 use Rattle.goodput.specs.declared.curve.Source.the-variants.{Roofline, Table}
 use Rattle.switch_settings.specs.Switch.{isUnconstrained}
 use Rattle.ledger_rows.specs.declared.layout.Past.{Past}
+use Rattle.ledger_rows.specs.declared.layout.Step.{Step}
 use Rattle.ledger_workers.specs.Workers.{pastOf}
 use Rattle.ledger.specs.declared.answer.Decision.{Decision}
 use Rattle.ledger.specs.declared.answer.Decision.the-variants.{Nothing, Put}
@@ -34,12 +35,16 @@ pub record Acted : Type 0 where
 abbrev pub decidedPriced : Settings → Ask → Lent → Past → Decided
 decidedPriced s a l past = decidedBy (looped s a (l .loaded)) s a l (curveOf s a l) (s .policy) past
 
+-- what is added at the second in which a plan's step ends: all drafts, and the sequences
+abbrev pub stepOf : Ask → List ℕ → Step
+stepOf a drafts = record { second = secondOf (a .end); drafts = totalOf drafts; sequences = a .sequences }
+
 -- the step and the worker's record are in the storage
 abbrev pub actedBy : Ask → List ℕ → Decided → Acted
 actedBy a ws d = record {
   weighed = d .weighed;
   drafts = d .drafts;
-  storage = recorded ws (secondOf (a .end)) (totalOf (d .drafts)) (a .sequences) (d .change) .1;
+  storage = recorded ws (stepOf a (d .drafts)) (d .change) .1;
 }
 
 -- ---- the lists that a step reads; the others are left out

@@ -4,6 +4,7 @@ use crate::uses;
 use asking::Ask;
 use ledger::answer::Decision;
 use ledger_rows::layout::Past;
+use ledger_rows::layout::Step;
 use settings::Settings;
 ghost use mathlib.Core.Path.{_≡_};
 ghost use mathlib.Core.Bool.{true};
@@ -50,14 +51,14 @@ fn past_used(settings: Settings, ask: Ask, storage: &[u64]) -> Past
 }
 
 // The step and the worker's record in the storage, which has room for both.
-fn keep(storage: &mut [u64], second: u64, drafts: u64, sequences: u64, change: Decision)
-    requires { ⌜ (stepJudged (now storage) second ≡ 0) × (changeJudged (now storage) change ≡ 0) ⌝ }
-    ensures { λ _. ⌜ now (storage .exit) ≡ recorded (now (storage .entry)) second drafts sequences change .1 ⌝ }
+fn keep(storage: &mut [u64], step: Step, change: Decision)
+    requires { ⌜ (stepJudged (now storage) (step .second) ≡ 0) × (changeJudged (now storage) change ≡ 0) ⌝ }
+    ensures { λ _. ⌜ now (storage .exit) ≡ recorded (now (storage .entry)) step change .1 ⌝ }
 {
-    let found = ledger_seconds::inner::place(storage, second);
+    let found = ledger_seconds::inner::place(storage, step.second);
     match change {
         Decision::Nothing => {
-            ledger_acts::inner::act_plain(storage, found, second, drafts, sequences);
+            ledger_acts::inner::act_plain(storage, found, step);
         }
         Decision::Put {
             a,
@@ -66,18 +67,7 @@ fn keep(storage: &mut [u64], second: u64, drafts: u64, sequences: u64, change: D
             rounds,
             stall,
         } => {
-            ledger_acts::inner::act_decided(
-                storage,
-                found,
-                second,
-                drafts,
-                sequences,
-                a,
-                b,
-                width,
-                rounds,
-                stall,
-            );
+            ledger_acts::inner::act_decided(storage, found, step, a, b, width, rounds, stall);
         }
     }
 }
@@ -119,12 +109,11 @@ pub fn act(
     );
     let change = choice.change;
     let drafted = total(drafts);
-    keep(
-        storage,
-        numeral::second(ask.end),
-        drafted,
-        ask.sequences as u64,
-        change,
-    );
+    let step = Step {
+        second: numeral::second(ask.end),
+        drafts: drafted,
+        sequences: ask.sequences as u64,
+    };
+    keep(storage, step, change);
     choice.weighed
 }

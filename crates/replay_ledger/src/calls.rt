@@ -3,6 +3,7 @@
 use crate::many;
 use cases::words;
 use ledger::answer::Decision;
+use ledger_rows::layout::Step;
 use ledger_words::outcome::Outcome;
 use ledger_words::outcome::of_answer;
 use ledger_words::outcome::of_stall;
@@ -77,10 +78,19 @@ pub fn make(call: &[u64], names: &[u64], storage: &mut [u64]) -> Outcome {
 }
 
 fn plan(call: &[u64], decision: Decision, storage: &mut [u64]) -> Outcome {
-    let second = words::at(call, 1);
-    let drafts = words::at(call, 2);
-    let sequences = words::at(call, 3);
-    of_answer(ledger::record(storage, second, drafts, sequences, decision))
+    let step = step_from(call, 1);
+    of_answer(ledger::record(storage, step, decision))
+}
+
+// What a plan adds, from a place of the call on: its second, its drafts, its sequences.
+pub fn step_from(call: &[u64], at: usize) -> Step
+    requires { ⌜ at ≤ 8 ⌝ }
+{
+    Step {
+        second: words::at(call, at),
+        drafts: words::at(call, at + 1),
+        sequences: words::at(call, at + 2),
+    }
 }
 
 // The worker's place, and its record behind the decision.

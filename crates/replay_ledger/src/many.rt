@@ -1,8 +1,10 @@
 // Many calls in one. Its value is how many were accepted, its refusal the newest of the others.
 use crate::calls::MOST;
 use crate::calls::name_at;
+use crate::calls::step_from;
 use cases::words;
 use ledger::answer::Decision;
+use ledger_rows::layout::Step;
 use ledger_words::outcome::Outcome;
 use ledger_words::outcome::of_answer;
 use ledger_words::outcome::value;
@@ -55,7 +57,12 @@ fn plans(call: &[u64], storage: &mut [u64]) -> Outcome {
     let mut k = 0u64;
     while k < count {
         k += 1;
-        let answer = ledger::record(storage, second, drafts, sequences, Decision::Nothing);
+        let one = Step {
+            second,
+            drafts,
+            sequences,
+        };
+        let answer = ledger::record(storage, one, Decision::Nothing);
         let next = and(all, of_answer(answer));
         all = next;
         second = wrapping_add_u64(second, step);
@@ -89,10 +96,8 @@ fn decide(call: &[u64], names: &[u64], place: usize, storage: &mut [u64]) -> Out
         rounds: 0,
         stall: 0,
     };
-    let second = words::at(call, 3);
-    let drafts = words::at(call, 4);
-    let sequences = words::at(call, 5);
-    of_answer(ledger::record(storage, second, drafts, sequences, decision))
+    let step = step_from(call, 3);
+    of_answer(ledger::record(storage, step, decision))
 }
 
 fn withdrawals(count: u64, storage: &mut [u64]) -> Outcome {

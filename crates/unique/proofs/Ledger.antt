@@ -3,6 +3,7 @@ use mathlib.Core.List.{List}
 use mathlib.Core.Path.{_≡_}
 use Prim.Native.Nat.{ℕ}
 use lib.Ieee.{Float}
+use Rattle.ledger_rows.specs.declared.layout.Step.{Step}
 use Rattle.ledger.specs.Calls.{collected, countOf, dayFigure, emptied, recorded, seriesRead, stepJudged, withdrawn, workerJudged, workerOf}
 use Rattle.ledger.specs.declared.answer.Answer.{Answer}
 use Rattle.ledger.specs.declared.answer.Count.{Count}
@@ -23,8 +24,8 @@ judge-step-once storage second x y p q = once p q
 pub judge-worker-once : (storage : List ℕ) (a b : ℕ) → OnlyOne (λ (r : ℕ). r ≡ workerJudged storage a b)
 judge-worker-once storage a b x y p q = once p q
 
-pub record-once : (storage : List ℕ) (second drafts sequences : ℕ) (change : Decision) → OnlyTwo (λ (r : Answer) (storage′ : List ℕ). (r, storage′) ≡ recorded storage second drafts sequences change)
-record-once storage second drafts sequences change x b y c p q = pair-once p q
+pub record-once : (storage : List ℕ) (step : Step) (change : Decision) → OnlyTwo (λ (r : Answer) (storage′ : List ℕ). (r, storage′) ≡ recorded storage step change)
+record-once storage step change x b y c p q = pair-once p q
 
 pub collect-once : (storage : List ℕ) (a b : ℕ) → OnlyTwo (λ (r : Stall) (storage′ : List ℕ). (r, storage′) ≡ collected storage a b)
 collect-once storage a b x left y c p q = pair-once p q

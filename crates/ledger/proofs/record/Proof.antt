@@ -22,7 +22,7 @@ same-length c = search needs
 returns : tie.Need-returns
 returns c =
     let a = c .before .before .before .before .before .before .before .args in
-    recorded-plain (a .storage .now) (a .second) (a .drafts) (a .sequences) (a .change) _ (c .before .before .before .before .enum-told .given .1) (c .before .before .record-plain .ensures)
+    recorded-plain (a .storage .now) (a .step) (a .change) _ (c .before .before .before .before .enum-told .given .1) (c .before .before .record-plain .ensures)
 
 same-length-2 : tie.Need-same-length-2
 same-length-2 c = search needs
@@ -30,7 +30,7 @@ same-length-2 c = search needs
 returns-2 : tie.Need-returns-2
 returns-2 c =
     let a = c .before .before .before .before .before .before .before .before .args in
-    recorded-put (a .storage .now) (a .second) (a .drafts) (a .sequences) (a .change) _ _ _ _ _ _ (c .before .before .before .before .before .change .given .1) (c .before .before .record-decided .ensures)
+    recorded-put (a .storage .now) (a .step) (a .change) _ _ _ _ _ _ (c .before .before .before .before .before .change .given .1) (c .before .before .record-decided .ensures)
 
 pub record-spec : {M : Type 1} → statement M
 record-spec =

@@ -18,7 +18,7 @@ same-length c = search needs
 returns : tie.Need-returns
 returns c =
     let a = c .before .before .before .before .before .before .before .before .args in
-    unless-then (a .storage .now) (a .a) (a .b) (a .second) (c .before .before .before .before .before .judge-worker .result) _ _ (c .before .before .before .before .before .judge-worker .ensures) (c .before .before .before .before .if1 .taken) (c .before .before .record-step .ensures)
+    unless-then (a .storage .now) (a .a) (a .b) (a .step .second) (c .before .before .before .before .before .judge-worker .result) _ _ (c .before .before .before .before .before .judge-worker .ensures) (c .before .before .before .before .if1 .taken) (c .before .before .record-step .ensures)
 
 same-length-2 : tie.Need-same-length-2
 same-length-2 c = search needs

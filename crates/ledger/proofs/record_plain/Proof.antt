@@ -6,13 +6,13 @@ use Rattle.ledger.proofs.record_plain.Statement.{statement}
 use Rattle.ledger.proofs.record_plain.Tie as tie
 
 returns : tie.Need-returns
-returns c = plain-short (c .before .before .args .storage .now) (c .before .before .args .second) _ (c .if1 .taken)
+returns c = plain-short (c .before .before .args .storage .now) (c .before .before .args .step .second) _ (c .if1 .taken)
 
 place-requires : tie.Need-place-requires
 place-requires c κs = search needs
 
 place-refusal-requires : tie.Need-place-refusal-requires
-place-refusal-requires c κs = (known-row (c .before .before .before .before .before .args .storage .now) (c .before .before .before .before .before .args .second) (c .before .place .result) (c .before .place .ensures), c .before .before .before .if1 .left)
+place-refusal-requires c κs = (known-row (c .before .before .before .before .before .args .storage .now) (c .before .before .before .before .before .args .step .second) (c .before .place .result) (c .before .place .ensures), c .before .before .before .if1 .left)
 
 act-plain-requires : tie.Need-act-plain-requires
 act-plain-requires c κs = (c .before .before .before .before .place .ensures, c .before .before .before .before .before .before .if1 .left)
@@ -24,7 +24,7 @@ returns-2 : tie.Need-returns-2
 returns-2 c =
     let a = c .before .before .before .before .before .before .before .before .before .before .before .args in
     let r = c .before .before .before .before .before .place-refusal .result in
-    let judged = step-long (a .storage .now) (a .second) r (c .before .before .before .before .before .before .before .before .before .if1 .left) (step-is (a .storage .now) (a .second) (c .before .before .before .before .before .before .before .place .result) (c .before .before .before .before .before .before .before .place .ensures) r (c .before .before .before .before .before .place-refusal .ensures)) in
+    let judged = step-long (a .storage .now) (a .step .second) r (c .before .before .before .before .before .before .before .before .before .if1 .left) (step-is (a .storage .now) (a .step .second) (c .before .before .before .before .before .before .before .place .result) (c .before .before .before .before .before .before .before .place .ensures) r (c .before .before .before .before .before .place-refusal .ensures)) in
     unless-done _ r _ _ _ judged (c .before .before .before .before .if2 .taken) (c .before .before .act-plain .ensures)
 
 same-length-2 : tie.Need-same-length-2
@@ -34,7 +34,7 @@ returns-3 : tie.Need-returns-3
 returns-3 c =
     let a = c .before .before .before .before .before .before .before .args in
     let r = c .before .place-refusal .result in
-    let judged = step-long (a .storage .now) (a .second) r (c .before .before .before .before .before .if1 .left) (step-is (a .storage .now) (a .second) (c .before .before .before .place .result) (c .before .before .before .place .ensures) r (c .before .place-refusal .ensures)) in
+    let judged = step-long (a .storage .now) (a .step .second) r (c .before .before .before .before .before .if1 .left) (step-is (a .storage .now) (a .step .second) (c .before .before .before .place .result) (c .before .before .before .place .ensures) r (c .before .place-refusal .ensures)) in
     unless-refused _ r _ _ judged (c .if2 .left)
 
 pub record-plain-spec : {M : Type 1} → statement M

@@ -9,7 +9,7 @@ place-requires : tie.Need-place-requires
 place-requires c κs = search needs
 
 place-refusal-requires : tie.Need-place-refusal-requires
-place-refusal-requires c κs = (known-row (c .before .before .before .before .args .storage .now) (c .before .before .before .before .args .second) (c .before .place .result) (c .before .place .ensures), c .before .before .before .before .pre)
+place-refusal-requires c κs = (known-row (c .before .before .before .before .args .storage .now) (c .before .before .before .before .args .step .second) (c .before .place .result) (c .before .place .ensures), c .before .before .before .before .pre)
 
 act-decided-requires : tie.Need-act-decided-requires
 act-decided-requires c κs = (c .before .before .before .before .place .ensures, c .before .before .before .before .before .before .before .pre)
@@ -21,7 +21,7 @@ returns : tie.Need-returns
 returns c =
     let a = c .before .before .before .before .before .before .before .before .before .before .args in
     let r = c .before .before .before .before .before .place-refusal .result in
-    unless-done _ r _ _ _ (step-is (a .storage .now) (a .second) (c .before .before .before .before .before .before .before .place .result) (c .before .before .before .before .before .before .before .place .ensures) r (c .before .before .before .before .before .place-refusal .ensures)) (c .before .before .before .before .if1 .taken) (c .before .before .act-decided .ensures)
+    unless-done _ r _ _ _ (step-is (a .storage .now) (a .step .second) (c .before .before .before .before .before .before .before .place .result) (c .before .before .before .before .before .before .before .place .ensures) r (c .before .before .before .before .before .place-refusal .ensures)) (c .before .before .before .before .if1 .taken) (c .before .before .act-decided .ensures)
 
 same-length-2 : tie.Need-same-length-2
 same-length-2 c = search needs
@@ -30,7 +30,7 @@ returns-2 : tie.Need-returns-2
 returns-2 c =
     let a = c .before .before .before .before .before .before .args in
     let r = c .before .place-refusal .result in
-    unless-refused _ r _ _ (step-is (a .storage .now) (a .second) (c .before .before .before .place .result) (c .before .before .before .place .ensures) r (c .before .place-refusal .ensures)) (c .if1 .left)
+    unless-refused _ r _ _ (step-is (a .storage .now) (a .step .second) (c .before .before .before .place .result) (c .before .before .before .place .ensures) r (c .before .place-refusal .ensures)) (c .if1 .left)
 
 pub record-step-spec : {M : Type 1} → statement M
 record-step-spec =

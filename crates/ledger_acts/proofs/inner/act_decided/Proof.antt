@@ -25,7 +25,7 @@ same-length c = search needs
 returns : tie.Need-returns
 returns c =
     let a = c .before .before .before .before .before .before .before .before .before .before .before .before .before .before .before .before .args in
-    decided-done (a .storage .now) (a .second) (a .drafts) (a .sequences) (a .a) (a .b) (a .width) (a .rounds) (a .stall) (c .before .before .before .before .before .before .before .before .before .before .before .before .before .past .result) _ _ _ (c .before .before .before .before .before .before .before .before .before .before .before .before .before .past .ensures) (c .before .before .before .before .before .before .before .before .before .before .before .add-step .ensures) (c .before .before .before .before .before .before .before .put .ensures) (c .before .before .push .ensures)
+    decided-done (a .storage .now) (a .step) (a .a) (a .b) (a .width) (a .rounds) (a .stall) (c .before .before .before .before .before .before .before .before .before .before .before .before .before .past .result) _ _ _ (c .before .before .before .before .before .before .before .before .before .before .before .before .before .past .ensures) (c .before .before .before .before .before .before .before .before .before .before .before .add-step .ensures) (c .before .before .before .before .before .before .before .put .ensures) (c .before .before .push .ensures)
 
 pub act-decided-spec : {M : Type 1} → statement M
 act-decided-spec =

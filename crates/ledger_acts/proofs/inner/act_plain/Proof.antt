@@ -19,7 +19,7 @@ same-length c = search needs
 returns : tie.Need-returns
 returns c =
     let a = c .before .before .before .before .before .before .before .before .before .before .args in
-    plain-done (a .storage .now) (a .second) (a .drafts) (a .sequences) _ _ (c .before .before .before .before .before .before .before .add-step .ensures) (c .before .before .push .ensures)
+    plain-done (a .storage .now) (a .step) _ _ (c .before .before .before .before .before .before .before .add-step .ensures) (c .before .before .push .ensures)
 
 pub act-plain-spec : {M : Type 1} → statement M
 act-plain-spec =

@@ -34,12 +34,12 @@ same-length c = search needs
 returns : tie.Need-returns
 returns c =
     let a = c .before .before .before .before .before .before .before .args in
-    inserted-done (a .words .now) (a .second) (a .row) (a .drafts) (a .sequences) _ (a .rows) (c .before .before .before .before .before .if1 .taken) (c .before .before .put-in .ensures)
+    inserted-done (a .words .now) (a .step) (a .row) _ (a .rows) (c .before .before .before .before .before .if1 .taken) (c .before .before .put-in .ensures)
 
 returns-2 : tie.Need-returns-2
 returns-2 c =
     let a = c .before .before .args in
-    inserted-full (a .words .now) (a .second) (a .row) (a .rows) (a .drafts) (a .sequences) (c .if1 .left)
+    inserted-full (a .words .now) (a .step) (a .row) (a .rows) (c .if1 .left)
 
 pub insert-spec : {M : Type 1} → statement M
 insert-spec =

@@ -43,8 +43,8 @@ slice-read-rest-of-2 c = search needs
 rest-of-requires-2 : tie.Need-rest-of-requires-2
 rest-of-requires-2 c κs = search needs
 
-sub-t22 : tie.Need-sub-t22
-sub-t22 c = search needs
+sub-t20 : tie.Need-sub-t20
+sub-t20 c = search needs
 
 slice-aggregate-put : tie.Need-slice-aggregate-put
 slice-aggregate-put c = search needs
@@ -79,7 +79,7 @@ same-length c = search needs
 returns : tie.Need-returns
 returns c =
     let a = c .before .before .before .before .before .before .before .before .before .before .before .before .args in
-    lowered-some (a .words .now) (a .second) (a .row) (a .drafts) (a .sequences) _ (a .rows) (c .before .before .before .before .before .before .before .rest-of .result) (c .before .before .before .before .before .rest-of2 .result) (c .before .before .before .before .before .before .before .before .before .if1 .taken) (c .before .before .before .before .before .before .before .rest-of .ensures) (c .before .before .before .before .before .rest-of2 .ensures) (c .before .before .put .ensures)
+    lowered-some (a .words .now) (a .step) (a .row) _ (a .rows) (c .before .before .before .before .before .before .before .rest-of .result) (c .before .before .before .before .before .rest-of2 .result) (c .before .before .before .before .before .before .before .before .before .if1 .taken) (c .before .before .before .before .before .before .before .rest-of .ensures) (c .before .before .before .before .before .rest-of2 .ensures) (c .before .before .put .ensures)
 
 same-length-2 : tie.Need-same-length-2
 same-length-2 c = search needs
@@ -87,7 +87,7 @@ same-length-2 c = search needs
 returns-2 : tie.Need-returns-2
 returns-2 c =
     let a = c .before .before .before .before .before .before .before .before .args in
-    lowered-last (a .words .now) (a .second) (a .row) (a .drafts) (a .sequences) _ (a .rows) (c .before .before .before .before .before .if1 .left) (c .before .before .take-out .ensures)
+    lowered-last (a .words .now) (a .step) (a .row) _ (a .rows) (c .before .before .before .before .before .if1 .left) (c .before .before .take-out .ensures)
 
 pub lower-spec : {M : Type 1} → statement M
 lower-spec =
@@ -106,7 +106,7 @@ lower-spec =
     mul-rest-of-2
     slice-read-rest-of-2
     rest-of-requires-2
-    sub-t22
+    sub-t20
     slice-aggregate-put
     put-requires
     sub-end

@@ -58,7 +58,7 @@ same-length c = search needs
 returns : tie.Need-returns
 returns c =
     let a = c .before .before .before .before .before .before .before .before .before .before .before .before .args in
-    raised-done (a .words .now) (a .second) (a .row) (a .drafts) (a .sequences) _ (c .before .before .before .before .before .before .before .before .before .sum-of .result) (c .before .before .before .before .before .before .before .sum-of2 .result) (c .before .before .before .before .before .sum-of3 .result) (c .before .before .before .before .before .before .before .before .before .sum-of .ensures) (c .before .before .before .before .before .before .before .sum-of2 .ensures) (c .before .before .before .before .before .sum-of3 .ensures) (c .before .before .put .ensures)
+    raised-done (a .words .now) (a .step) (a .row) _ (c .before .before .before .before .before .before .before .before .before .sum-of .result) (c .before .before .before .before .before .before .before .sum-of2 .result) (c .before .before .before .before .before .sum-of3 .result) (c .before .before .before .before .before .before .before .before .before .sum-of .ensures) (c .before .before .before .before .before .before .before .sum-of2 .ensures) (c .before .before .before .before .before .sum-of3 .ensures) (c .before .before .put .ensures)
 
 pub raise-spec : {M : Type 1} → statement M
 raise-spec =

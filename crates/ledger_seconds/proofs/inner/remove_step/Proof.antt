@@ -12,8 +12,8 @@ lower-requires : tie.Need-lower-requires
 lower-requires c κs =
     let a = c .before .before .before .before .before .args in
     let p = c .before .before .place in
-    let inside = second-in (a .words .now) (a .second) (p .result) (p .ensures) (c .before .if1 .taken) in
-    let many = second-rows (a .words .now) (a .second) (p .result) (p .ensures) in
+    let inside = second-in (a .words .now) (a .step .second) (p .result) (p .ensures) (c .before .if1 .taken) in
+    let many = second-rows (a .words .now) (a .step .second) (p .result) (p .ensures) in
     (inside, omega arith, c .before .before .before .before .before .pre)
 
 same-length : tie.Need-same-length
@@ -22,7 +22,7 @@ same-length c = search needs
 returns : tie.Need-returns
 returns c =
     let a = c .before .before .before .before .before .before .before .before .args in
-    removed-known (a .words .now) (a .second) (a .drafts) (a .sequences) (c .before .before .before .before .before .place .result) (c .before .before .before .before .before .place .ensures) _ (c .before .before .before .before .if1 .taken) (c .before .before .lower .ensures)
+    removed-known (a .words .now) (a .step) (c .before .before .before .before .before .place .result) (c .before .before .before .before .before .place .ensures) _ (c .before .before .before .before .if1 .taken) (c .before .before .lower .ensures)
 
 same-length-2 : tie.Need-same-length-2
 same-length-2 c = search needs
@@ -30,7 +30,7 @@ same-length-2 c = search needs
 returns-2 : tie.Need-returns-2
 returns-2 c =
     let a = c .before .before .before .before .args in
-    removed-unknown (a .words .now) (a .second) (a .drafts) (a .sequences) (c .before .place .result) (c .before .place .ensures) (c .if1 .left)
+    removed-unknown (a .words .now) (a .step) (c .before .place .result) (c .before .place .ensures) (c .if1 .left)
 
 pub remove-step-spec : {M : Type 1} → statement M
 remove-step-spec =

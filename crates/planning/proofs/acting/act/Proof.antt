@@ -28,14 +28,14 @@ total-requires c κs =
 second-requires : tie.Need-second-requires
 second-requires c κs = search needs
 
-cast-keep : tie.Need-cast-keep
-cast-keep c = search needs
+cast-t26 : tie.Need-cast-t26
+cast-t26 c = search needs
 
 keep-requires : tie.Need-keep-requires
 keep-requires c κs =
     let a = c .before .before .before .before .before .before .before .before .before .before .before .before .before .before .before .before .before .before .before .before .before .before .args in
     let l = lentToAct (now (a .positions)) (now (a .roofline)) (now (a .depths)) (now (a .batches)) (now (a .seconds)) (now (a .loaded)) (now (a .signals)) (now (a .bank-curve)) (now (a .indices)) in
-    (ap (stepJudged (now (a .storage))) (c .before .second .ensures) ∙ c .before .before .before .before .before .before .before .before .before .before .before .before .before .before .before .before .before .before .before .before .before .before .pre .step, change-judged (a .settings) (a .ask) l (now (a .storage)) (now (a .drafts)) (c .before .before .before .before .before .before .before .before .before .before .before .before .before .before .before .before .before .before .before .before .before .before .pre) (c .before .before .before .before .before .before .before .before .before .past-used .result) (c .before .before .before .before .before .before .before .before .before .past-used .ensures) _ (c .before .before .before .before .before .before .before .decide-priced .ensures))
+    (ap (stepJudged (now (a .storage))) (c .before .before .second .ensures) ∙ c .before .before .before .before .before .before .before .before .before .before .before .before .before .before .before .before .before .before .before .before .before .before .pre .step, change-judged (a .settings) (a .ask) l (now (a .storage)) (now (a .drafts)) (c .before .before .before .before .before .before .before .before .before .before .before .before .before .before .before .before .before .before .before .before .before .before .pre) (c .before .before .before .before .before .before .before .before .before .past-used .result) (c .before .before .before .before .before .before .before .before .before .past-used .ensures) _ (c .before .before .before .before .before .before .before .decide-priced .ensures))
 
 same-length : tie.Need-same-length
 same-length c = search needs
@@ -47,7 +47,7 @@ returns : tie.Need-returns
 returns c =
     let a = c .before .before .before .before .before .before .before .before .before .before .before .before .before .before .before .before .before .before .before .before .before .before .before .before .before .args in
     let l = lentToAct (now (a .positions)) (now (a .roofline)) (now (a .depths)) (now (a .batches)) (now (a .seconds)) (now (a .loaded)) (now (a .signals)) (now (a .bank-curve)) (now (a .indices)) in
-    acted-is (a .settings) (a .ask) l (now (a .storage)) (now (a .drafts)) (c .before .before .before .before .before .before .before .before .before .before .before .before .before .before .before .before .before .before .before .before .before .before .before .before .before .pre) (c .before .before .before .before .before .before .before .before .before .before .before .before .past-used .result) (c .before .before .before .before .before .before .before .before .before .before .before .before .past-used .ensures) _ (c .before .before .before .before .before .before .before .before .before .before .decide-priced .ensures) (c .before .before .before .before .before .before .total .result) (c .before .before .before .before .second .result) _ (c .before .before .before .before .before .before .total .ensures) (c .before .before .before .before .second .ensures) (c .before .before .keep .ensures)
+    acted-is (a .settings) (a .ask) l (now (a .storage)) (now (a .drafts)) (c .before .before .before .before .before .before .before .before .before .before .before .before .before .before .before .before .before .before .before .before .before .before .before .before .before .pre) (c .before .before .before .before .before .before .before .before .before .before .before .before .past-used .result) (c .before .before .before .before .before .before .before .before .before .before .before .before .past-used .ensures) _ (c .before .before .before .before .before .before .before .before .before .before .decide-priced .ensures) (c .before .before .before .before .before .before .total .result) (c .before .before .before .before .before .second .result) _ (c .before .before .before .before .before .before .total .ensures) (c .before .before .before .before .before .second .ensures) (c .before .before .keep .ensures)
 
 pub act-spec : {M : Type 1} → statement M
 act-spec =
@@ -57,7 +57,7 @@ act-spec =
     decide-priced-requires
     total-requires
     second-requires
-    cast-keep
+    cast-t26
     keep-requires
     same-length
     same-length-2
