@@ -1,9 +1,9 @@
-// Numbers and means in the columns of a page: blanks in front, up to a width.
+// Numbers, means and shares in the columns of a page: blanks in front, up to a width.
 ghost use mathlib.Core.Path.{_≡_};
 ghost use Prim.Native.Nat.{_-_};
 ghost use Rattle.page.specs.Page.{Added};
 ghost use Rattle.page.specs.Numbers.{decimal};
-ghost use Rattle.figures.specs.Figures.{meanText};
+ghost use Rattle.figures.specs.Figures.{meanText, shareText};
 ghost use Rattle.columns.specs.Columns.{blanks, padded};
 
 // Adds so many blanks.
@@ -50,5 +50,14 @@ pub fn append_mean(page: &mut [u8], used: usize, width: usize, sum: u64, count: 
 {
     let mut text = [0u8; 32];
     let k = figures::append_mean(&mut text, 0, sum, count);
+    append_padded(page, used, width, &text[..k])
+}
+
+// Adds what share of a whole a part is in a column of this width.
+pub fn append_share(page: &mut [u8], used: usize, width: usize, part: u64, whole: u64) -> usize
+    ensures { λ r. ⌜ Added (now (page .entry)) used (padded width (shareText part whole)) (now (page .exit)) r ⌝ }
+{
+    let mut text = [0u8; 32];
+    let k = figures::append_share(&mut text, 0, part, whole);
     append_padded(page, used, width, &text[..k])
 }

@@ -1,26 +1,33 @@
--- How a mean and a figure are written: to six decimals.
+-- How a mean and a figure are written, to six decimals, and a share, in whole percents.
 use Prim.Native.Nat.{ℕ, _+_, _*_, _/_, _^_, max}
 use mathlib.Core.Bool.{cond}
-use mathlib.Core.List.{List}
+use mathlib.Core.List.{List, _++_}
 use lib.Dec.{ltb}
 use lib.Ieee.{Float, binary64, ofBits, lt, add, mul, toUnsigned}
 use Rattle.page.specs.Spelt.{spelt}
-use Rattle.page.specs.Numbers.{sixDecimals, bar}
+use Rattle.page.specs.Numbers.{decimal, sixDecimals, bar}
 
--- sums and counts up to here have their mean written
+-- sums and counts up to here have their mean and their share written
 abbrev pub limit : ℕ
 limit = 4 * 10 ^ 12
 
--- what stands where a mean or a float is not written
+-- what stands where a mean, a share or a float is not written
 abbrev pub tooLarge : List ℕ
 tooLarge = spelt "too large"
 
 abbrev pub outOfRange : List ℕ
 outOfRange = spelt "out of range"
 
--- sum / max(count, 1) in millionths, rounded to the nearest, a half up
+-- sum / max(count, 1) in so many parts of one, rounded to the nearest, a half up
+abbrev pub rounded : ℕ → ℕ → ℕ → ℕ
+rounded scale sum count = (2 * scale * sum + max count 1) / (2 * max count 1)
+
+-- in millionths, and in hundredths
 abbrev pub millionths : ℕ → ℕ → ℕ
-millionths sum count = (2 * 10 ^ 6 * sum + max count 1) / (2 * max count 1)
+millionths = rounded (10 ^ 6)
+
+abbrev pub percent : ℕ → ℕ → ℕ
+percent = rounded 100
 
 unfoldable pub meanText : ℕ → ℕ → List ℕ
 meanText sum count = cond (ltb limit sum) tooLarge (cond (ltb limit count) tooLarge (sixDecimals (millionths sum count)))
@@ -28,6 +35,15 @@ meanText sum count = cond (ltb limit sum) tooLarge (cond (ltb limit count) tooLa
 -- a mark for each whole one of the mean; none where the mean is not written
 unfoldable pub meanBar : ℕ → ℕ → List ℕ
 meanBar sum count = cond (ltb limit sum) (bar 0) (cond (ltb limit count) (bar 0) (bar (millionths sum count / 10 ^ 6)))
+
+-- ---- a share
+
+-- what stands for a share of nothing
+abbrev pub noShare : List ℕ
+noShare = spelt "-"
+
+unfoldable pub shareText : ℕ → ℕ → List ℕ
+shareText part whole = cond (ltb whole 1) noShare (cond (ltb limit part) tooLarge (cond (ltb limit whole) tooLarge (decimal (percent part whole) ++ spelt "%")))
 
 -- ---- a float, from 0.0 to below 10^12
 

@@ -1,10 +1,10 @@
-// Means of whole-number sums, and floats, on a page: to six decimals.
+// Means of whole-number sums and floats on a page, to six decimals, and shares in whole percents.
 ghost use mathlib.Core.Path.{_≡_};
-ghost use Prim.Native.Nat.{_≤_, max};
+ghost use Prim.Native.Nat.{_+_, _*_, _/_, _^_, _≤_, max};
 ghost use Rattle.page.specs.Page.{Added};
-ghost use Rattle.figures.specs.Figures.{limit, millionths, meanText, meanBar, figureMillionths, figureText};
+ghost use Rattle.figures.specs.Figures.{limit, millionths, meanText, meanBar, shareText, figureMillionths, figureText};
 
-// Sums and counts up to here have their mean written.
+// Sums and counts up to here have their mean and their share written.
 const LIMIT: u64 = 4000000000000;
 
 fn at_least_one(n: u64) -> u64
@@ -13,13 +13,21 @@ fn at_least_one(n: u64) -> u64
     if n < 1 { 1 } else { n }
 }
 
-// The mean in millionths, rounded to the nearest, a half up.
+// Half of `twice` over the count, rounded to the nearest, a half up.
+fn nearest(twice: u64, count: u64) -> u64
+    requires { ⌜ (twice ≤ 2 * 10 ^ 6 * limit) × (count ≤ limit) ⌝ }
+    ensures { λ r. ⌜ r ≡ (twice + max count 1) / (2 * max count 1) ⌝ }
+{
+    let by = at_least_one(count);
+    (twice + by) / (2 * by)
+}
+
+// The mean in millionths.
 fn mean(sum: u64, count: u64) -> u64
     requires { ⌜ (sum ≤ limit) × (count ≤ limit) ⌝ }
     ensures { λ r. ⌜ r ≡ millionths sum count ⌝ }
 {
-    let s = at_least_one(count);
-    (2000000 * sum + s) / (2 * s)
+    nearest(2000000 * sum, count)
 }
 
 // Adds the mean of a sum over a count, where no count is one: six decimals, or `too large`.
@@ -48,6 +56,24 @@ pub fn append_mean_bar(page: &mut [u8], used: usize, sum: u64, count: u64) -> us
     }
     let millionths = mean(sum, count);
     page::append_bar(page, used, millionths / 1000000)
+}
+
+// Adds what share of a whole a part is: in whole percents, or `too large`. Of nothing there is no share, but a `-`.
+pub fn append_share(page: &mut [u8], used: usize, part: u64, whole: u64) -> usize
+    ensures { λ r. ⌜ Added (now (page .entry)) used (shareText part whole) (now (page .exit)) r ⌝ }
+{
+    if whole < 1 {
+        return page::append(page, used, b"-");
+    }
+    if LIMIT < part {
+        return page::append(page, used, b"too large");
+    }
+    if LIMIT < whole {
+        return page::append(page, used, b"too large");
+    }
+    let percent = nearest(200 * part, whole);
+    let at = page::append_decimal(page, used, percent);
+    page::append(page, at, b"%")
 }
 
 // A float in millionths: its whole part, once a half is added.
