@@ -5,6 +5,8 @@
  * Ownership. Everything is the host's. A call uses what it is lent until it returns and keeps no address; the planner is the words of
  * `storage` and nothing else. No call allocates, opens a file, prints or ends the program.
  *
+ * Version. The words of a storage belong to one version of the library: words that another one wrote are not to be lent.
+ *
  * Slices. A slice crosses as an address and a count of elements. The address is never null, is aligned for the element, and has that
  * many elements, also where the count is 0 (then any aligned address that is not null serves). What is lent to be written overlaps
  * nothing else that is lent to the same call, and nothing else uses it until the call returns: one storage, one call at a time.
@@ -29,6 +31,13 @@
 #ifdef __cplusplus
 extern "C" {
 #endif
+
+/* The library that this header declares. Compare it with latchmeander_version() before the first other call: a library of another version has
+ * other words in the storage, other records or other calls, and nothing else would tell. */
+#define LATCHMEANDER_VERSION 2
+
+/* The version of the library that is linked. Refuses nothing. */
+uint64_t latchmeander_version(void);
 
 /* Numbers of cases. A number that stands for no case is refused 12, before all else. */
 enum { LATCHMEANDER_FIXED, LATCHMEANDER_GOODPUT_BUDGET, LATCHMEANDER_GATED_BUDGET, LATCHMEANDER_GATED_AGGREGATE }; /* policy */
@@ -137,10 +146,12 @@ latchmeander_count latchmeander_available(const uint64_t *storage, size_t storag
 latchmeander_count latchmeander_seconds_held(const uint64_t *storage, size_t storage_len);
 latchmeander_count latchmeander_workers_held(const uint64_t *storage, size_t storage_len);
 
-/* The seconds held, ascending, with the mean draft and the mean batch of each, at the fronts of the three buffers; the rest of them
- * stays. The count is how many. Refuses 16, also where one of the buffers is shorter than that. */
+/* The seconds held, ascending, with the means of each: drafts by sequence, sequences by step, and committed by sequence, which counts of each
+ * sequence what latchmeander_accepted answers. They stand at the fronts of the four buffers; the rest of them stays. The count is how many.
+ * Refuses 16, also where one of the buffers is shorter than that. */
 latchmeander_count latchmeander_series(const uint64_t *storage, size_t storage_len, uint64_t *seconds, size_t seconds_len,
-                                       double *mean_drafts, size_t mean_drafts_len, double *mean_batches, size_t mean_batches_len);
+                                       double *mean_drafts, size_t mean_drafts_len, double *mean_batches, size_t mean_batches_len,
+                                       double *mean_committed, size_t mean_committed_len);
 
 /* The mean of the seconds' mean drafts; 0.0 where none is held. Refuses 16. */
 latchmeander_figure latchmeander_day_figure(const uint64_t *storage, size_t storage_len);

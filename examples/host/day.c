@@ -1,12 +1,13 @@
-/* A day of two workers through the library, as a host in C plans it: texts that are read, plans by each policy, refusals, a collection,
- * withdrawals, the day's series, and how long a width takes to settle. `examples/host/run` builds it, runs it and holds what it prints
- * against day.out. After every refusal all that was lent is compared, byte by byte, with what it was before the call. */
+/* A day of two workers through the library, as a host in C plans it: the library's version, texts that are read, plans by each policy,
+ * refusals, a collection, withdrawals, the day's series, and how long a width takes to settle. `examples/host/run` builds it, runs it
+ * and holds what it prints against day.out. After every refusal all that was lent is compared, byte by byte, with what it was before the
+ * call. */
 #include "latchmeander.h"
 
 #include <stdio.h>
 #include <string.h>
 
-#define WORDS 18308 /* what latchmeander_room() answers */
+#define WORDS 22468 /* what latchmeander_room() answers */
 #define MOST 4      /* sequences in a plan of this day */
 #define WALKS 64    /* what latchmeander_settles wants room for */
 
@@ -106,12 +107,23 @@ static void show_worker(uint64_t worker) {
            (unsigned long)r.width, (unsigned long)r.rounds, r.stall);
 }
 
+/* How much of the draft survived; of no draft there is no share. */
+static void show_share(double committed, double draft) {
+    if (draft > 0.0)
+        printf("survived %u%%\n", (unsigned)(100.0 * committed / draft + 0.5));
+    else
+        printf("survived -\n");
+}
+
 static void show_series(void) {
     uint64_t seconds[8];
-    double drafts[8], batches[8];
-    latchmeander_count series = latchmeander_series(h.words, WORDS, seconds, 8, drafts, 8, batches, 8);
-    for (uint64_t i = 0; i < series.count; i++)
-        printf("  second %lu: mean draft %.6f, mean batch %.6f\n", (unsigned long)seconds[i], drafts[i], batches[i]);
+    double drafts[8], batches[8], committed[8];
+    latchmeander_count series = latchmeander_series(h.words, WORDS, seconds, 8, drafts, 8, batches, 8, committed, 8);
+    for (uint64_t i = 0; i < series.count; i++) {
+        printf("  second %lu: mean draft %.6f, mean batch %.6f, mean committed %.6f, ", (unsigned long)seconds[i], drafts[i], batches[i],
+               committed[i]);
+        show_share(committed[i], drafts[i]);
+    }
     printf("  seconds %lu, workers %lu, can be withdrawn %lu, day figure %.6f\n",
            (unsigned long)latchmeander_seconds_held(h.words, WORDS).count, (unsigned long)latchmeander_workers_held(h.words, WORDS).count,
            (unsigned long)latchmeander_available(h.words, WORDS).count, latchmeander_day_figure(h.words, WORDS).value);
@@ -261,6 +273,8 @@ int main(void) {
     latchmeander_settings gated = {.gamma = 4, .policy = LATCHMEANDER_GATED_AGGREGATE, .model = LATCHMEANDER_TRACE,
                                    .drafter = LATCHMEANDER_FRACTION, .frac = 0.05,
                                    .cooldown_rounds = 2, .steps = LATCHMEANDER_AT_MOST, .max_step = 1, .cost_ms = 5.0};
+    printf("version %lu\n", (unsigned long)latchmeander_version());
+    if (latchmeander_version() != LATCHMEANDER_VERSION) return 2;
     memset(&h, 0x5a, sizeof h); /* what the words hold before they are a planner does not matter */
     keep();
     printf("a word too few: ");

@@ -30,14 +30,21 @@ pub extern "C" fn bench_fresh(storage: &mut [u64]) -> u64
 
 // A plan of no worker is counted; the number of the refusal, 0 for none.
 #[no_mangle]
-pub extern "C" fn bench_record(storage: &mut [u64], second: u64, drafts: u64, sequences: u64) -> u64
-    ensures { λ r. ⌜ r ≡ ledgerNumber (recorded (now (storage .entry)) (record { second = second; drafts = drafts; sequences = sequences }) Nothing .0) ⌝ }
-    ensures { λ r. ⌜ now (storage .exit) ≡ recorded (now (storage .entry)) (record { second = second; drafts = drafts; sequences = sequences }) Nothing .1 ⌝ }
+pub extern "C" fn bench_record(
+    storage: &mut [u64],
+    second: u64,
+    drafts: u64,
+    sequences: u64,
+    committed: u64,
+) -> u64
+    ensures { λ r. ⌜ r ≡ ledgerNumber (recorded (now (storage .entry)) (record { second = second; drafts = drafts; sequences = sequences; committed = committed }) Nothing .0) ⌝ }
+    ensures { λ r. ⌜ now (storage .exit) ≡ recorded (now (storage .entry)) (record { second = second; drafts = drafts; sequences = sequences; committed = committed }) Nothing .1 ⌝ }
 {
     let step = Step {
         second,
         drafts,
         sequences,
+        committed,
     };
     let answer = ledger::record(storage, step, Decision::Nothing);
     ledger_number(answer)
@@ -50,13 +57,15 @@ pub extern "C" fn bench_series(
     seconds: &mut [u64],
     drafts: &mut [f64],
     batches: &mut [f64],
+    committed: &mut [f64],
 ) -> u64
-    ensures { λ r. ⌜ r ≡ countFigure (seriesRead (now (storage .entry)) (now (seconds .entry)) (now (drafts .entry)) (now (batches .entry)) .0) ⌝ }
-    ensures { λ r. ⌜ now (seconds .exit) ≡ seriesRead (now (storage .entry)) (now (seconds .entry)) (now (drafts .entry)) (now (batches .entry)) .1 ⌝ }
-    ensures { λ r. ⌜ now (drafts .exit) ≡ seriesRead (now (storage .entry)) (now (seconds .entry)) (now (drafts .entry)) (now (batches .entry)) .2 ⌝ }
-    ensures { λ r. ⌜ now (batches .exit) ≡ seriesRead (now (storage .entry)) (now (seconds .entry)) (now (drafts .entry)) (now (batches .entry)) .3 ⌝ }
+    ensures { λ r. ⌜ r ≡ countFigure (seriesRead (now (storage .entry)) (now (seconds .entry)) (now (drafts .entry)) (now (batches .entry)) (now (committed .entry)) .0) ⌝ }
+    ensures { λ r. ⌜ now (seconds .exit) ≡ seriesRead (now (storage .entry)) (now (seconds .entry)) (now (drafts .entry)) (now (batches .entry)) (now (committed .entry)) .1 ⌝ }
+    ensures { λ r. ⌜ now (drafts .exit) ≡ seriesRead (now (storage .entry)) (now (seconds .entry)) (now (drafts .entry)) (now (batches .entry)) (now (committed .entry)) .2 ⌝ }
+    ensures { λ r. ⌜ now (batches .exit) ≡ seriesRead (now (storage .entry)) (now (seconds .entry)) (now (drafts .entry)) (now (batches .entry)) (now (committed .entry)) .3 ⌝ }
+    ensures { λ r. ⌜ now (committed .exit) ≡ seriesRead (now (storage .entry)) (now (seconds .entry)) (now (drafts .entry)) (now (batches .entry)) (now (committed .entry)) .4 ⌝ }
 {
-    let answer = ledger::series(storage, seconds, drafts, batches);
+    let answer = ledger::series(storage, seconds, drafts, batches, committed);
     match answer {
         Count::Is(count) => count,
         Count::Refused(_) => 18446744073709551615,

@@ -33,7 +33,7 @@ fn fresh(
     floats: &mut [f64],
     wholes: &mut [u32],
 ) -> u64 {
-    let mut storage = [0u64; 18308];
+    let mut storage = [0u64; 22468];
     let mut set = [0u64; 33];
     let mut clock = [0u64; 66];
     let mut page = [0u8; 65536];

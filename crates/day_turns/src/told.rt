@@ -39,6 +39,7 @@ fn row(turn: Turn, k: u64, storage: &[u64], page: &mut [u8]) -> Turn {
             second,
             drafts,
             sequences,
+            committed,
             steps,
         } => {
             let at = page::make_room(page, turn.used);
@@ -49,6 +50,7 @@ fn row(turn: Turn, k: u64, storage: &[u64], page: &mut [u8]) -> Turn {
                 second,
                 drafts,
                 sequences,
+                committed,
                 steps,
             );
             turns::done(turn, used)
@@ -63,10 +65,17 @@ pub fn series_bits(turn: Turn, storage: &[u64], page: &mut [u8]) -> Turn {
     let mut seconds = [0u64; 4096];
     let mut drafts = [0.0f64; 4096];
     let mut batches = [0.0f64; 4096];
-    match ledger::series(storage, &mut seconds, &mut drafts, &mut batches) {
+    let mut committed = [0.0f64; 4096];
+    match ledger::series(
+        storage,
+        &mut seconds,
+        &mut drafts,
+        &mut batches,
+        &mut committed,
+    ) {
         Count::Is(count) => {
             let headed = headed(turn, count, page);
-            bit_rows(headed, count, &seconds, &drafts, &batches, page)
+            bit_rows(headed, count, &seconds, &drafts, &batches, &committed, page)
         }
         Count::Refused(number) => turns::refused(turn, number, 0, page),
     }
@@ -78,6 +87,7 @@ fn bit_rows(
     seconds: &[u64],
     drafts: &[f64],
     batches: &[f64],
+    committed: &[f64],
     page: &mut [u8],
 ) -> Turn {
     let mut turn = start;
@@ -91,6 +101,7 @@ fn bit_rows(
             seconds[k],
             float_at(drafts, k),
             float_at(batches, k),
+            float_at(committed, k),
             page,
         );
         turn = next;
@@ -103,9 +114,24 @@ fn float_at(list: &[f64], k: usize) -> f64 {
     if k < list.len() { list[k] } else { 0.0 }
 }
 
-fn bit_row(turn: Turn, second: u64, mean_draft: f64, mean_batch: f64, page: &mut [u8]) -> Turn {
+fn bit_row(
+    turn: Turn,
+    second: u64,
+    mean_draft: f64,
+    mean_batch: f64,
+    mean_committed: f64,
+    page: &mut [u8],
+) -> Turn {
     let at = page::make_room(page, turn.used);
-    let used = series_lines::series_bits(page, at, turn.number, second, mean_draft, mean_batch);
+    let used = series_lines::series_bits(
+        page,
+        at,
+        turn.number,
+        second,
+        mean_draft,
+        mean_batch,
+        mean_committed,
+    );
     turns::done(turn, used)
 }
 

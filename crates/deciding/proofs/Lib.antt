@@ -1,2 +1,4 @@
 pub mod Means
 pub mod Decisions
+pub mod Gated
+pub mod Narrow

@@ -1,7 +1,7 @@
 -- What each policy drafts, and what becomes of the worker's record. Assumes nothing.
-use Prim.Native.Nat.{ℕ, _+_}
+use Prim.Native.Nat.{ℕ}
 use mathlib.Core.Bool.{cond}
-use mathlib.Core.List.{List, [], _∷_}
+use mathlib.Core.List.{List}
 use lib.Dec.{eqb}
 use lib.ListN.{replicate}
 use lib.Ieee.{Float, binary64, toBits}
@@ -83,8 +83,3 @@ module _ (best : List Float → List Float → ℕ) (s : Settings) (a : Ask) (l 
   decidedBy GoodputBudget past = byMean
   decidedBy GatedBudget past = byGate
   decidedBy GatedAggregate past = byAggregate past
-
--- the drafts together
-unfoldable pub totalOf : List ℕ → ℕ
-totalOf [] = 0
-totalOf (d ∷ ds) = d + totalOf ds

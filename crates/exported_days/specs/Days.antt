@@ -78,12 +78,12 @@ listedTold (Count count) = told 0 count 0
 listedTold TooMany = told 0 0 1
 listedTold (NoList field expected) = told expected 0 field
 
--- the number of a row that is asked for: 0 its second, 1 its drafts, 2 its sequences, else its steps
-abbrev pub sumAsked : ℕ → ℕ → ℕ → ℕ → ℕ → ℕ
-sumAsked asked second drafts sequences steps = cond (eqb asked 0) second (cond (eqb asked 1) drafts (cond (eqb asked 2) sequences steps))
+-- the number of a row that is asked for: 0 its second, 1 its drafts, 2 its sequences, 3 its committed, else its steps
+abbrev pub sumAsked : ℕ → ℕ → ℕ → ℕ → ℕ → ℕ → ℕ
+sumAsked asked second drafts sequences committed steps = cond (eqb asked 0) second (cond (eqb asked 1) drafts (cond (eqb asked 2) sequences (cond (eqb asked 3) committed steps)))
 
 -- 1 and the number that is asked for, where there is such a row
 abbrev pub sumsTold : ℕ → Sums → Told
-sumsTold asked (Of second drafts sequences steps) = told 0 1 (sumAsked asked second drafts sequences steps)
+sumsTold asked (Of second drafts sequences committed steps) = told 0 1 (sumAsked asked second drafts sequences committed steps)
 sumsTold asked Past = told 0 0 0
 sumsTold asked (Refused number) = told number 0 0

@@ -47,6 +47,7 @@ pub extern "C" fn ledger_record(
     second: u64,
     drafts: u64,
     sequences: u64,
+    committed: u64,
     puts: u64,
     a: u64,
     b: u64,
@@ -54,13 +55,14 @@ pub extern "C" fn ledger_record(
     rounds: u64,
     stall: u64,
 ) -> u64
-    ensures { λ r. ⌜ (r, now (storage .exit)) ≡ onFirst answerOf (recorded (now (storage .entry)) (record { second = second; drafts = drafts; sequences = sequences }) (changeOf puts a b width rounds stall)) ⌝ }
+    ensures { λ r. ⌜ (r, now (storage .exit)) ≡ onFirst answerOf (recorded (now (storage .entry)) (record { second = second; drafts = drafts; sequences = sequences; committed = committed }) (changeOf puts a b width rounds stall)) ⌝ }
 {
     let change = change_of(puts, a, b, width, rounds, stall);
     let step = Step {
         second,
         drafts,
         sequences,
+        committed,
     };
     let answer = ledger::record(storage, step, change);
     answers::of_answer(answer)

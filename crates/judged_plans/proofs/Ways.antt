@@ -2,10 +2,11 @@
 use mathlib.Core.Path.{_≡_, refl, sym, ap, _∙_}
 use mathlib.Core.Bool.{cond}
 use mathlib.Core.List.{List, [], _++_}
-use Prim.Native.Nat.{ℕ, zero, suc, _≤_, _<_}
+use Prim.Native.Nat.{ℕ, zero, suc, _+_, _≤_, _<_}
 use native.Mathlib.Nat.{not-suc-le-zero}
 use native.Mathlib.Omega.{arith}
-use lib.ListN.{length, drop}
+use lib.ListN.{length, take, drop, length-append}
+use lib.Seq.{take-append-seam}
 use borrow.Author.Tests.{eq-eqb, ne-eqb}
 use Rattle.refusals.specs.Refusals.{firstOf}
 use Rattle.refusals.proofs.First.{goes-first, goes-next}
@@ -128,13 +129,29 @@ module _ (s : Settings) (a : Ask) (l : Lent) (ws ds cs : List ℕ) where
       unfolding planRefusal
       none-refused = sym (sym none-late ∙ goes-next 0 _ _ (ap (drawnRefusal s a l) used-is) (omega arith) ∙ goes-next 0 _ _ (sym asked) (omega arith))
 
+      -- the commits that the act is lent are all that was drawn
+      lent-drawn : take (a .sequences) out ≡ drawn s a l .commits
+      lent-drawn =
+          let n = all-drawn s a l used used-is in
+          ap (λ (i : ℕ). take i out) (sym n) ∙ ap (take (length (drawn s a l .commits))) (told .2) ∙ take-append-seam (drawn s a l .commits) (drop (length (drawn s a l .commits)) cs)
+
+      pub as-many-lent : a .sequences ≤ length (take (a .sequences) out)
+      as-many-lent = omega (arith, ap (λ (xs : List ℕ). length xs) lent-drawn, all-drawn s a l used used-is)
+
+      pub commits-long : a .sequences ≤ length out
+      commits-long =
+          let n = all-drawn s a l used used-is in
+          let k : length (drawn s a l .commits ++ drop (length (drawn s a l .commits)) cs) ≡ length (drawn s a l .commits) + length (drop (length (drawn s a l .commits)) cs) = rw length-append in
+          let m : length out ≡ length (drawn s a l .commits) + length (drop (length (drawn s a l .commits)) cs) = ap (λ (xs : List ℕ). length xs) (told .2) ∙ k in
+          omega arith
+
       pub plan-made : settingsRefusal s (l .positions) ≡ 0 → (weighed : ℕ) (storage drafts : List ℕ)
-          → record { weighed = weighed; drafts = drafts; storage = storage } ≡ actedBy a ws (decidedPriced s a (actLists l) (pastOf ws (a .a) (a .b)))
+          → record { weighed = weighed; drafts = drafts; storage = storage } ≡ actedBy a (take (a .sequences) out) ws (decidedPriced s a (actLists l) (pastOf ws (a .a) (a .b)))
           → record { answer = Plan used weighed; storage = storage; drafts = drafts ++ drop (a .sequences) ds; commits = out } ≡ somePlanned s a l ws ds cs
       unfolding made
       plan-made settled weighed storage drafts act =
           let b = decidedBy (best s a l) s a l (curveOf s a l) (s .policy) (pastOf ws (a .a) (a .b)) in
-          let done : record { weighed = weighed; drafts = drafts; storage = storage } ≡ actedBy a ws b = act ∙ ap (actedBy a ws) (rules-priced s a l ws ds cs asked used used-is none-late settled) in
+          let done : record { weighed = weighed; drafts = drafts; storage = storage } ≡ actedBy a (drawn s a l .commits) ws b = act ∙ ap (λ (xs : List ℕ). actedBy a xs ws (decidedPriced s a (actLists l) (pastOf ws (a .a) (a .b)))) lent-drawn ∙ ap (actedBy a (drawn s a l .commits) ws) (rules-priced s a l ws ds cs asked used used-is none-late settled) in
           let k : out ≡ drawn s a l .commits ++ drop (a .sequences) cs = told .2 ∙ ap (λ (i : ℕ). drawn s a l .commits ++ drop i cs) (all-drawn s a l used used-is) in
           ap (λ (xs : List ℕ). record { answer = Plan used weighed; storage = storage; drafts = drafts ++ drop (a .sequences) ds; commits = xs }) k
           ∙ ap (λ (x : Acted). record { answer = Plan used (x .weighed); storage = x .storage; drafts = x .drafts ++ drop (a .sequences) ds; commits = drawn s a l .commits ++ drop (a .sequences) cs }) done

@@ -43,7 +43,7 @@ module _ (s : Settings) (a : Ask) (l : Lent) (ws ds cs : List ℕ) where
   made (NotDrawn number) d = record { answer = Refused number; storage = ws; drafts = ds; commits = cs }
   made (Used used) d = record {
     answer = Plan used (d .weighed);
-    storage = recorded ws (stepOf a (d .drafts)) (d .change) .1;
+    storage = recorded ws (stepOf a (d .drafts) (drawn s a l .commits)) (d .change) .1;
     drafts = d .drafts ++ drop (a .sequences) ds;
     commits = drawn s a l .commits ++ drop (a .sequences) cs;
   }

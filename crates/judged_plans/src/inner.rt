@@ -62,6 +62,7 @@ pub fn plan_judged(
                 signals,
                 bank_curve,
                 indices,
+                &commits[..n],
                 storage,
                 &mut drafts[..n],
             );

@@ -37,11 +37,11 @@ beside w b = (b, w)
 pub handed : {A B C : Type 0} → (f : A → B) → (r : B) → (x : A) → (w : C) → (p : A × C) → r ≡ f x → (x, w) ≡ p → (r, w) ≡ onFirst f p
 handed {A = A} {B = B} {C = C} f r x w p h e = ap (λ (b : B). beside w b) h ∙ ap (λ (q : A × C). onFirst f q) e
 
-abbrev series-of : List ℕ → List Float → List Float → HostCount → HostCount × List ℕ × List Float × List Float
-series-of s d b r = (r, s, d, b)
+abbrev series-of : List ℕ → List Float → List Float → List Float → HostCount → HostCount × List ℕ × List Float × List Float × List Float
+series-of s d b m r = (r, s, d, b, m)
 
-pub series-handed : (r : HostCount) → (x : Count) → (s : List ℕ) → (d b : List Float) → (p : Count × List ℕ × List Float × List Float) → r ≡ countOf x → (x, s, d, b) ≡ p → (r, s, d, b) ≡ seriesHanded p
-series-handed r x s d b p h e = ap (series-of s d b) h ∙ ap seriesHanded e
+pub series-handed : (r : HostCount) → (x : Count) → (s : List ℕ) → (d b m : List Float) → (p : Count × List ℕ × List Float × List Float × List Float) → r ≡ countOf x → (x, s, d, b, m) ≡ p → (r, s, d, b, m) ≡ seriesHanded p
+series-handed r x s d b m p h e = ap (series-of s d b m) h ∙ ap seriesHanded e
 
 abbrev bank-of : List ℕ → List Float → List Float → HostRead → HostRead × List ℕ × List Float × List Float
 bank-of n s k r = (r, n, s, k)

@@ -30,9 +30,9 @@ use Rattle.host.specs.Answers.{countOf, plannedOf, timeOf, bankOf, tableOf, set
 abbrev pub onFirst : {A B C : Type 0} → (A → B) → A × C → B × C
 onFirst f p = (f (p .0), p .1)
 
--- the count of a series, and its three buffers
-abbrev pub seriesHanded : Count × List ℕ × List Float × List Float → HostCount × List ℕ × List Float × List Float
-seriesHanded p = (countOf (p .0), p .1, p .2, p .3)
+-- the count of a series, and its four buffers
+abbrev pub seriesHanded : Count × List ℕ × List Float × List Float × List Float → HostCount × List ℕ × List Float × List Float × List Float
+seriesHanded p = (countOf (p .0), p .1, p .2, p .3, p .4)
 
 -- a plan's answer, and the storage, the drafts and the commits
 abbrev pub planHanded : Left → HostPlan × List ℕ × List ℕ × List ℕ

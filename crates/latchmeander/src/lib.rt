@@ -2,5 +2,6 @@
 // Structs cross by value, a slice as its address and its length, and nothing is kept after a call but what the host lent.
 pub mod arriving;
 pub mod files;
+pub mod library;
 pub mod plans;
 pub mod storage;

@@ -71,17 +71,18 @@ pub extern "C" fn latchmeander_workers_held(storage: &[u64]) -> HostCount
     answers::of_count(answer)
 }
 
-// The seconds and their means, at the fronts of three buffers; the count is how many.
+// The seconds and their means, at the fronts of four buffers; the count is how many.
 #[no_mangle]
 pub extern "C" fn latchmeander_series(
     storage: &[u64],
     seconds: &mut [u64],
     mean_drafts: &mut [f64],
     mean_batches: &mut [f64],
+    mean_committed: &mut [f64],
 ) -> HostCount
-    ensures { λ r. ⌜ (r, now (seconds .exit), now («mean_drafts» .exit), now («mean_batches» .exit)) ≡ seriesHanded (seriesRead (now (storage .entry)) (now (seconds .entry)) (now («mean_drafts» .entry)) (now («mean_batches» .entry))) ⌝ }
+    ensures { λ r. ⌜ (r, now (seconds .exit), now («mean_drafts» .exit), now («mean_batches» .exit), now («mean_committed» .exit)) ≡ seriesHanded (seriesRead (now (storage .entry)) (now (seconds .entry)) (now («mean_drafts» .entry)) (now («mean_batches» .entry)) (now («mean_committed» .entry))) ⌝ }
 {
-    let answer = ledger::series(storage, seconds, mean_drafts, mean_batches);
+    let answer = ledger::series(storage, seconds, mean_drafts, mean_batches, mean_committed);
     answers::of_count(answer)
 }
 

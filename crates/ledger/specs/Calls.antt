@@ -22,7 +22,7 @@ use Rattle.ledger.specs.declared.answer.Decision.the-variants.{Nothing, 
 use Rattle.ledger_rows.specs.Layout.{room, secondsHeld, available}
 use Rattle.ledger_workers.specs.Workers.{pastOf}
 use Rattle.ledger_acts.specs.Acts.{stepRefusal, workerRefusal, plainDone, decidedDone, collectedDone}
-use Rattle.ledger_series.specs.Series.{secondOf, meanDraft, meanBatch, upTo, front, figureOf}
+use Rattle.ledger_series.specs.Series.{secondOf, meanDraft, meanBatch, meanCommitted, upTo, front, figureOf}
 use Rattle.ledger_changes.specs.Changes.{popped, stepBack, workerBack}
 
 -- ---- the judges: 0 where nothing is refused
@@ -86,15 +86,15 @@ workerOf ws a b = cond (ltb (length ws) room) (Refused·found 16) (foundOf (past
 -- ---- the series and the day figure
 
 -- the storage, or a buffer for as many seconds as are held
-abbrev pub tooShort : List ℕ → ℕ → ℕ → ℕ → Bool
-tooShort ws a b c = ltb (length ws) room || (ltb a (secondsHeld ws) || (ltb b (secondsHeld ws) || ltb c (secondsHeld ws)))
+abbrev pub tooShort : List ℕ → ℕ → ℕ → ℕ → ℕ → Bool
+tooShort ws a b c d = ltb (length ws) room || (ltb a (secondsHeld ws) || (ltb b (secondsHeld ws) || (ltb c (secondsHeld ws) || ltb d (secondsHeld ws))))
 
--- the seconds held at the fronts of three buffers, and how many they are
-unfoldable pub seriesRead : List ℕ → List ℕ → List Float → List Float → Count × List ℕ × List Float × List Float
-seriesRead ws seconds drafts batches =
-    cond (tooShort ws (length seconds) (length drafts) (length batches))
-    (Refused·count 16, seconds, drafts, batches)
-    (Is (secondsHeld ws), front (secondOf ws) (secondsHeld ws) seconds, front (meanDraft ws) (secondsHeld ws) drafts, front (meanBatch ws) (secondsHeld ws) batches)
+-- the seconds held at the fronts of four buffers, and how many they are
+unfoldable pub seriesRead : List ℕ → List ℕ → List Float → List Float → List Float → Count × List ℕ × List Float × List Float × List Float
+seriesRead ws seconds drafts batches committed =
+    cond (tooShort ws (length seconds) (length drafts) (length batches) (length committed))
+    (Refused·count 16, seconds, drafts, batches, committed)
+    (Is (secondsHeld ws), front (secondOf ws) (secondsHeld ws) seconds, front (meanDraft ws) (secondsHeld ws) drafts, front (meanBatch ws) (secondsHeld ws) batches, front (meanCommitted ws) (secondsHeld ws) committed)
 
 unfoldable pub dayFigure : List ℕ → Figure
 dayFigure ws = cond (ltb (length ws) room) (Refused·figure 16) (Mean (figureOf (upTo (meanDraft ws) (secondsHeld ws))))

@@ -114,7 +114,7 @@ fn record_decided(
     }
 }
 
-// An accepted plan: its drafts, its sequences and one step are added at its second, and its worker's record is put where it has one.
+// An accepted plan: its drafts, its sequences, its committed and one step are added at its second, and its worker's record is put where it has one.
 // Refused with the first of 16, 17, 18 and 19.
 pub fn record(storage: &mut [u64], step: Step, change: Decision) -> Answer
     ensures { λ r. ⌜ (r, now (storage .exit)) ≡ recorded (now (storage .entry)) step change ⌝ }
@@ -215,15 +215,16 @@ pub fn worker(storage: &[u64], a: u64, b: u64) -> Found
     }
 }
 
-// The seconds held, ascending, each with its mean draft and its mean batch, at the fronts of three buffers; answers how many they are.
+// The seconds held, ascending, each with its mean draft, its mean batch and its mean committed, at the fronts of four buffers; answers how many they are.
 // Refused with 16 where the storage or a buffer is too short.
 pub fn series(
     storage: &[u64],
     seconds: &mut [u64],
     mean_drafts: &mut [f64],
     mean_batches: &mut [f64],
+    mean_committed: &mut [f64],
 ) -> Count
-    ensures { λ r. ⌜ (r, now (seconds .exit), now («mean_drafts» .exit), now («mean_batches» .exit)) ≡ seriesRead (now (storage .entry)) (now (seconds .entry)) (now («mean_drafts» .entry)) (now («mean_batches» .entry)) ⌝ }
+    ensures { λ r. ⌜ (r, now (seconds .exit), now («mean_drafts» .exit), now («mean_batches» .exit), now («mean_committed» .exit)) ≡ seriesRead (now (storage .entry)) (now (seconds .entry)) (now («mean_drafts» .entry)) (now («mean_batches» .entry)) (now («mean_committed» .entry)) ⌝ }
 {
     if storage.len() < ROOM {
         return Count::Refused(16);
@@ -238,7 +239,17 @@ pub fn series(
     if mean_batches.len() < rows {
         return Count::Refused(16);
     }
-    ledger_series::inner::fill(storage, rows, seconds, mean_drafts, mean_batches);
+    if mean_committed.len() < rows {
+        return Count::Refused(16);
+    }
+    ledger_series::inner::fill(
+        storage,
+        rows,
+        seconds,
+        mean_drafts,
+        mean_batches,
+        mean_committed,
+    );
     Count::Is(rows as u64)
 }
 

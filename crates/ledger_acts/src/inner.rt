@@ -61,6 +61,7 @@ pub fn act_plain(storage: &mut [u64], found: Place, step: Step)
         step.second,
         step.drafts,
         step.sequences,
+        step.committed,
         1,
         0,
         0,
@@ -92,6 +93,7 @@ pub fn act_decided(
         step.second,
         step.drafts,
         step.sequences,
+        step.committed,
         1,
         past.kind,
         a,
@@ -110,7 +112,7 @@ pub fn act_collect(storage: &mut [u64], a: u64, b: u64, width: u64, rounds: u64,
     requires { ⌜ room ≤ length (now storage) ⌝ }
     ensures { λ _. ⌜ now (storage .exit) ≡ collectedDone (now (storage .entry)) a b (record { kind = 2; width = width; rounds = rounds; stall = stall }) ⌝ }
 {
-    let change = [0, 0, 0, 0, 2, a, b, width, rounds, stall];
+    let change = [0, 0, 0, 0, 0, 2, a, b, width, rounds, stall];
     ledger_workers::inner::put(storage, a, b, width, rounds, 0);
     ledger_changes::inner::push(storage, &change);
 }

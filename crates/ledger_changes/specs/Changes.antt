@@ -1,5 +1,5 @@
 -- The newest changes in the words: one kept, one no longer kept, and what one did taken back, on any content. They stand in a ring of slots.
--- A change is ten words: second, drafts, sequences, 1 where it is a plan; then the worker: kind, its two numbers, and the record from before:
+-- A change is eleven words: second, drafts, sequences, committed, 1 where it is a plan; then the worker: kind, its two numbers, and the record from before:
 -- width, rounds, stall. Kind is 0 for no worker, 1 where it had no record, 2 where it had that one.
 use mathlib.Core.Bool.{cond}
 use mathlib.Core.List.{List, [], _∷_}
@@ -8,21 +8,21 @@ use lib.Dec.{ltb, eqb}
 use lib.ListN.{getD, set}
 use Rattle.ledger_rows.specs.Words.{stored}
 use Rattle.ledger_rows.specs.declared.layout.Step.{Step}
-use Rattle.ledger_rows.specs.Layout.{changesMost, available, changeAt, nextSlot, draftsIn, sequencesIn, plannedIn, kindIn, workerAIn, workerBIn, widthIn, roundsIn, stallIn}
+use Rattle.ledger_rows.specs.Layout.{changesMost, available, changeAt, nextSlot, draftsIn, sequencesIn, committedIn, plannedIn, kindIn, workerAIn, workerBIn, widthIn, roundsIn, stallIn}
 use Rattle.ledger_seconds.specs.Seconds.{stepRemoved}
 use Rattle.ledger_workers.specs.Workers.{workerPut, workerDropped}
 
 -- the words of a change
 abbrev pub changeLaid : Step → ℕ → ℕ → ℕ → ℕ → ℕ → ℕ → ℕ → List ℕ
-changeLaid p plan kind a b width rounds stall = p .second ∷ p .drafts ∷ p .sequences ∷ plan ∷ kind ∷ a ∷ b ∷ width ∷ rounds ∷ stall ∷ []
+changeLaid p plan kind a b width rounds stall = p .second ∷ p .drafts ∷ p .sequences ∷ p .committed ∷ plan ∷ kind ∷ a ∷ b ∷ width ∷ rounds ∷ stall ∷ []
 
 -- what a change adds that is no plan
 abbrev pub noStep : Step
-noStep = record { second = 0; drafts = 0; sequences = 0 }
+noStep = record { second = 0; drafts = 0; sequences = 0; committed = 0 }
 
 -- what the change at `at` added
 abbrev pub stepAt : List ℕ → ℕ → Step
-stepAt ws at = record { second = getD ws at 0; drafts = getD ws (at + draftsIn) 0; sequences = getD ws (at + sequencesIn) 0 }
+stepAt ws at = record { second = getD ws at 0; drafts = getD ws (at + draftsIn) 0; sequences = getD ws (at + sequencesIn) 0; committed = getD ws (at + committedIn) 0 }
 
 -- the slots after and before one: the first comes after the last
 unfoldable pub following : ℕ → ℕ

@@ -3,6 +3,7 @@ use ledger_rows::inner;
 use ledger_rows::layout::CHANGE;
 use ledger_rows::layout::CHANGES;
 use ledger_rows::layout::CHANGES_MOST;
+use ledger_rows::layout::COMMITTED;
 use ledger_rows::layout::DRAFTS;
 use ledger_rows::layout::KIND;
 use ledger_rows::layout::PLANNED;
@@ -120,11 +121,13 @@ pub fn step_back(words: &mut [u64])
     let second = words[at];
     let drafts = words[at + DRAFTS];
     let sequences = words[at + SEQUENCES];
+    let committed = words[at + COMMITTED];
     if words[at + PLANNED] == 1 {
         let step = Step {
             second,
             drafts,
             sequences,
+            committed,
         };
         ledger_seconds::inner::remove_step(words, step);
     }

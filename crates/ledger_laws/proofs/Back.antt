@@ -12,7 +12,7 @@ use lib.Dec.{ltb, eqb}
 use lib.ListN.{length, getD, take, length-take}
 use Rattle.ledger_rows.specs.Map.{at, putAt, Ascending}
 use Rattle.ledger_rows.proofs.Tests.{by-test, not-both}
-use Rattle.ledger_rows.specs.Layout.{room, available, secondsMost, workersMost, changesMost, changeWide, draftsIn, sequencesIn, plannedIn, kindIn, workerAIn, workerBIn, widthIn, roundsIn, stallIn}
+use Rattle.ledger_rows.specs.Layout.{room, available, secondsMost, workersMost, changesMost, changeWide, draftsIn, sequencesIn, committedIn, plannedIn, kindIn, workerAIn, workerBIn, widthIn, roundsIn, stallIn}
 use Rattle.ledger_workers.specs.Workers.{workerLess, workerSame}
 use Rattle.ledger_changes.specs.Changes.{following, newestAt, popped, stepBack, workerBack}
 use Rattle.ledger.specs.Calls.{withdrawn}
@@ -51,13 +51,13 @@ module _ (k slot : ℕ) (inside : slot < changesMost) (q : Change × Option Swit
 
   -- a plan's step
   step-undone : (m : ℕ) (workers : List (Worker × Switching)) (rest : List ℕ) (p : Plan) (seconds : List (ℕ × Sums))
-      → getD (changeWords q) 0 0 ≡ p .second → getD (changeWords q) draftsIn 0 ≡ p .drafts → getD (changeWords q) sequencesIn 0 ≡ p .sequences → getD (changeWords q) plannedIn 0 ≡ 1
+      → getD (changeWords q) 0 0 ≡ p .second → getD (changeWords q) draftsIn 0 ≡ p .drafts → getD (changeWords q) sequencesIn 0 ≡ p .sequences → getD (changeWords q) committedIn 0 ≡ p .committed → getD (changeWords q) plannedIn 0 ≡ 1
       → length (addPlan p seconds) ≤ secondsMost → Ascending ltb eqb (addPlan p seconds) → ((u : Sums) → at ltb eqb (p .second) seconds ≡ some u → 1 ≤ u .steps)
       → stepBack (laid (length (addPlan p seconds)) m ring workers (addPlan p seconds) rest) ≡ laid (length seconds) m ring workers seconds rest
-  step-undone m workers rest p seconds a b c d fits asc h =
+  step-undone m workers rest p seconds a b c e d fits asc h =
       let now : List (ℕ × Sums) = addPlan p seconds in
       let has : (j : ℕ) → j < changeWide → getD (ws (length now) m workers now rest) (newestAt (ws (length now) m workers now rest) + j) 0 ≡ getD (changeWords q) j 0 = word (length now) m workers now rest in
-      step-plan (ws (length now) m workers now rest) p (has plannedIn (omega arith) ∙ d) (first-word (length now) m workers now rest ∙ a) (has draftsIn (omega arith) ∙ b) (has sequencesIn (omega arith) ∙ c)
+      step-plan (ws (length now) m workers now rest) p (has plannedIn (omega arith) ∙ d) (first-word (length now) m workers now rest ∙ a) (has draftsIn (omega arith) ∙ b) (has sequencesIn (omega arith) ∙ c) (has committedIn (omega arith) ∙ e)
       ∙ removed m ring workers rest p seconds fits asc h
 
   -- a worker's record
@@ -86,13 +86,13 @@ taken-back : (k slot : ℕ) (c : Change) (cs : List Change) (log : List (Change 
 unfolding secondsGiven workersGiven earlier changeWords Sound cleanAt
 taken-back k slot (planned p) cs log rest sound inside few =
     let q : Change × Option Switching = (planned p, none) in
-    ap workerBack (step-undone k slot inside q log few (length (workersGiven cs)) (workersGiven cs) rest p (secondsGiven cs) refl refl refl refl (fit-seconds (planned p ∷ cs) sound) (seconds-ascend (planned p ∷ cs)) (λ u e. held-steps (sumsAt (p .second) cs) u (sym (at-seconds (p .second) cs) ∙ e)))
+    ap workerBack (step-undone k slot inside q log few (length (workersGiven cs)) (workersGiven cs) rest p (secondsGiven cs) refl refl refl refl refl (fit-seconds (planned p ∷ cs) sound) (seconds-ascend (planned p ∷ cs)) (λ u e. held-steps (sumsAt (p .second) cs) u (sym (at-seconds (p .second) cs) ∙ e)))
     ∙ worker-none (under k slot (planned p) cs log rest) (word k slot inside q log few (length (secondsGiven cs)) (length (workersGiven cs)) (workersGiven cs) (secondsGiven cs) rest kindIn (omega arith))
 taken-back k slot (decided p w f) cs log rest sound inside few =
     let q : Change × Option Switching = (decided p w f, recordOf w cs) in
     let r : Switching = f (at workerLess workerSame w (workersGiven cs)) in
     let workers : List (Worker × Switching) = putAt workerLess workerSame w r (workersGiven cs) in
-    ap workerBack (step-undone k slot inside q log few (length workers) workers rest p (secondsGiven cs) refl refl refl refl (fit-seconds (decided p w f ∷ cs) sound) (seconds-ascend (decided p w f ∷ cs)) (λ u e. held-steps (sumsAt (p .second) cs) u (sym (at-seconds (p .second) cs) ∙ e)))
+    ap workerBack (step-undone k slot inside q log few (length workers) workers rest p (secondsGiven cs) refl refl refl refl refl (fit-seconds (decided p w f ∷ cs) sound) (seconds-ascend (decided p w f ∷ cs)) (λ u e. held-steps (sumsAt (p .second) cs) u (sym (at-seconds (p .second) cs) ∙ e)))
     ∙ worker-undone k slot inside q log few (length (secondsGiven cs)) (secondsGiven cs) rest w (workersGiven cs) r (recordOf w cs) refl refl refl refl refl refl (at-workers w cs) (fit-workers (decided p w f ∷ cs) sound) (workers-ascend (decided p w f ∷ cs))
 taken-back k slot (cleared w) cs log rest sound inside few = by-record (recordOf w cs) refl
   where

@@ -110,7 +110,8 @@ swapped t p q s = by-test (eqb (p .second) t)
     (λ a. by-test (eqb (q .second) t)
     (λ b. let d : s .drafts + q .drafts + p .drafts ≡ s .drafts + p .drafts + q .drafts = omega arith in
     let e : s .sequences + q .sequences + p .sequences ≡ s .sequences + p .sequences + q .sequences = omega arith in
-    rw (a, b, d, e))
+    let f : s .committed + q .committed + p .committed ≡ s .committed + p .committed + q .committed = omega arith in
+    rw (a, b, d, e, f))
     (λ b. rw (a, b)))
     (λ a. rw a)
 

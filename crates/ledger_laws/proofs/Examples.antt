@@ -14,9 +14,9 @@ use Rattle.ledger_laws.specs.Model.{Worker, Switching, Plan, Sums, Call,
 
 -- ---- P11: ends at 5.5, 6.0 and 5.9
 
--- a plan that ends in second t, of 4 drafts and 2 sequences
+-- a plan that ends in second t, of 4 drafts for 2 sequences, 3 of them committed
 abbrev pub ends : ℕ → Plan
-ends t = record { second = t; drafts = 4; sequences = 2 }
+ends t = record { second = t; drafts = 4; sequences = 2; committed = 3 }
 
 -- the sums at second t after calls on a fresh planner
 abbrev pub sumsAfter : List Call → ℕ → Sums
@@ -25,12 +25,12 @@ sumsAfter calls t = sumsAt t (after calls nothingStands .changes)
 abbrev pub p11-calls : List Call
 p11-calls = plan (ends 5) ∷ plan (ends 6) ∷ plan (ends 5) ∷ []
 
-pub p11 : (sumsAfter p11-calls 5 ≡ record { drafts = 8; sequences = 4; steps = 2 }) × (sumsAfter p11-calls 6 ≡ record { drafts = 4; sequences = 2; steps = 1 })
+pub p11 : (sumsAfter p11-calls 5 ≡ record { drafts = 8; sequences = 4; committed = 6; steps = 2 }) × (sumsAfter p11-calls 6 ≡ record { drafts = 4; sequences = 2; committed = 3; steps = 1 })
 unfolding after step refusal stepRule secondsOf sumsAt counted
 p11 = (refl, refl)
 
 -- its newest plan withdrawn
-p11-withdrawn : sumsAfter (plan (ends 5) ∷ plan (ends 6) ∷ plan (ends 5) ∷ back ∷ []) 5 ≡ record { drafts = 4; sequences = 2; steps = 1 }
+p11-withdrawn : sumsAfter (plan (ends 5) ∷ plan (ends 6) ∷ plan (ends 5) ∷ back ∷ []) 5 ≡ record { drafts = 4; sequences = 2; committed = 3; steps = 1 }
 unfolding after step refusal stepRule secondsOf sumsAt counted
 p11-withdrawn = refl
 

@@ -129,6 +129,7 @@ room-for p cs m ring workers rest small e sound =
     (λ l. rw l (
       omega (arith, f .drafts-few, f .sequences-few, small .drafts-small, small .sequences-small),
       omega (arith, f .sequences-few, small .sequences-small),
+      omega (arith, f .committed-few, f .drafts-few, f .sequences-few, small .committed-small, small .drafts-small, small .sequences-small),
       omega arith,
     ))
     (λ l. rw l (rw (length-seconds cs) (rule-seconds (p .second) cs e l)))

@@ -60,7 +60,7 @@ unfoldable pub heldSums : Sums → Option Sums
 heldSums s = cond (ltb 0 (s .steps)) (some s) none
 
 first-more : (p : Plan) → firstOf p ≡ more p nothingYet
-first-more p = let a : 0 + p .drafts ≡ p .drafts = omega arith in let b : 0 + p .sequences ≡ p .sequences = omega arith in rw (a, b)
+first-more p = let a : 0 + p .drafts ≡ p .drafts = omega arith in let b : 0 + p .sequences ≡ p .sequences = omega arith in let c : 0 + p .committed ≡ p .committed = omega arith in rw (a, b, c)
 
 grown-held : (p : Plan) (s : Sums) → (s .steps ≡ 0 → s ≡ nothingYet) → grown p (heldSums s) ≡ more p s
 unfolding grown heldSums
@@ -186,12 +186,13 @@ few-workers (planned p ∷ cs) s = few-workers cs (s .2)
 few-workers (decided p w f ∷ cs) s = by-test (isHeld (recordOf w cs)) (λ l. rw l (few-workers cs (s .3))) (λ l. rw l (rule-workers w cs (s .1) l))
 few-workers (cleared w ∷ cs) s = few-workers cs (s .1)
 
--- a second's steps bound its sums: drafts ≤ 64 * sequences, and each step has 1 to 1,024 sequences
+-- a second's steps bound its sums: committed ≤ drafts ≤ 64 * sequences, and each step has 1 to 1,024 sequences
 pub record Fair (s : Sums) : Type 0 where
   pub few : s .steps ≤ stepsMost
   pub some-sequences : s .steps ≤ s .sequences
   pub sequences-few : s .sequences ≤ 1024 * s .steps
   pub drafts-few : s .drafts ≤ 64 * s .sequences
+  pub committed-few : s .committed ≤ s .drafts
 
 fair-more : (p : Plan) (s : Sums) → Small p → s .steps < stepsMost → Fair s → Fair (more p s)
 fair-more p s small h f = record {
@@ -199,6 +200,7 @@ fair-more p s small h f = record {
   some-sequences = omega (arith, small .some-sequences, f .some-sequences);
   sequences-few = omega (arith, small .sequences-small, f .sequences-few);
   drafts-few = omega (arith, small .drafts-small, f .drafts-few);
+  committed-few = omega (arith, small .committed-small, f .committed-few);
 }
 
 fair-counted : (t : ℕ) (p : Plan) (cs : List Change) → Small p → stepRule (p .second) cs ≡ 0 → Fair (sumsAt t cs) → Fair (counted t p (sumsAt t cs))
@@ -211,7 +213,7 @@ fair-counted t p cs small e f = by-test (eqb (p .second) t)
 
 pub fair : (t : ℕ) (cs : List Change) → Sound cs → Fair (sumsAt t cs)
 unfolding Sound sumsAt
-fair t [] s = record { few = omega arith; some-sequences = omega arith; sequences-few = omega arith; drafts-few = omega arith }
+fair t [] s = record { few = omega arith; some-sequences = omega arith; sequences-few = omega arith; drafts-few = omega arith; committed-few = omega arith }
 fair t (planned p ∷ cs) s = fair-counted t p cs (s .0) (s .1) (fair t cs (s .2))
 fair t (decided p w f ∷ cs) s = fair-counted t p cs (s .0) (s .2) (fair t cs (s .3))
 fair t (cleared w ∷ cs) s = fair t cs (s .1)

@@ -90,7 +90,7 @@ module _ (n m : ℕ) (ring : Newest) (workers : List (Worker × Switching)) (res
         rw e at h
 
     pub closed-second : (o : Sums) → at ltb eqb t seconds ≡ some o
-        → closed (secondAt (before ltb eqb t seconds)) (secondAt (length seconds - 1)) (0 ∷ 0 ∷ 0 ∷ 0 ∷ []) (L seconds) ≡ L (without ltb eqb t seconds)
+        → closed (secondAt (before ltb eqb t seconds)) (secondAt (length seconds - 1)) (0 ∷ 0 ∷ 0 ∷ 0 ∷ 0 ∷ []) (L seconds) ≡ L (without ltb eqb t seconds)
     closed-second o e = rw (as-seconds seconds, as-seconds (without ltb eqb t seconds)) (dropping ltb eqb second-order t secondWords noSecond secondWide wide-second A secondsFrom long secondsMost rest seconds fits (ap isHeld e))
 
     pub read-second : (o : Sums) → at ltb eqb t seconds ≡ some o → (j : ℕ) → j < secondWide → getD (L seconds) (secondAt (before ltb eqb t seconds) + j) 0 ≡ getD (secondWords (t, o)) j 0

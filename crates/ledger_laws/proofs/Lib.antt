@@ -12,5 +12,6 @@ pub mod Corollaries
 pub mod Unwritten
 pub mod SameRows
 pub mod Shown
+pub mod Means
 pub mod Examples
 pub mod Anew

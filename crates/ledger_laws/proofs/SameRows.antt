@@ -1,8 +1,11 @@
--- Two lists that ascend by their keys and hold the same at every key are the same. Assumes nothing.
+-- Rows that ascend by their keys: each is held at its own key, and two lists of them that hold the same at every key are the same. Assumes nothing.
 use mathlib.Core.Path.{_≡_, refl, sym, ap, _∙_}
 use mathlib.Core.Bool.{Bool, true, false}
 use mathlib.Core.List.{List, [], _∷_}
 use mathlib.Core.Option.{none, some}
+use Prim.Native.Nat.{ℕ, zero, suc, _<_}
+use native.Mathlib.Omega.{arith}
+use lib.ListN.{length, getD}
 use Rattle.ledger_rows.proofs.Maps.{none-some}
 use Rattle.ledger_rows.specs.Map.{Order, at, Above, Ascending}
 use Rattle.ledger_rows.proofs.Tests.{by-test, not-both}
@@ -40,6 +43,19 @@ module _ {K U : Type 0} (less same : K → K → Bool) (ord : Order less same) w
   past-first : (r : K × U) (rs : List (K × U)) (k : K) → less (r .0) k ≡ true → at less same k (r ∷ rs) ≡ at less same k rs
   unfolding at
   past-first r rs k l = rw l
+
+  -- a row that stands above one has a larger key; each row of rows that ascend is held at its key
+  above-row : (b : K) (rs : List (K × U)) → Above less same b rs → (d : K × U) (i : ℕ) → i < length rs → less b (getD rs i d .0) ≡ true
+  unfolding Above
+  above-row b [] a d i h = absurd (omega arith)
+  above-row b (r ∷ rs) a d zero h = a .0
+  above-row b (r ∷ rs) a d (suc i) h = above-row b rs (a .1) d i (omega arith)
+
+  pub row-held : (rs : List (K × U)) → Ascending less same rs → (d : K × U) (i : ℕ) → i < length rs → at less same (getD rs i d .0) rs ≡ some (getD rs i d .1)
+  unfolding Ascending
+  row-held [] a d i h = absurd (omega arith)
+  row-held (r ∷ rs) a d zero h = first-held r rs
+  row-held (r ∷ rs) a d (suc i) h = past-first r rs (getD rs i d .0) (above-row (r .0) rs (a .0) d i (omega arith)) ∙ row-held rs (a .1) d i (omega arith)
 
   -- what holds at every key of two lists with the same first row holds of the rest
   rest-same : (r : K × U) (xs ys : List (K × U)) → Above less same (r .0) xs → Above less same (r .0) ys → ((k : K) → at less same k (r ∷ xs) ≡ at less same k (r ∷ ys)) → (k : K) → at less same k xs ≡ at less same k ys

@@ -9,8 +9,8 @@ use lib.Dec.{ltb, eqb}
 use lib.Ieee.{Float}
 use lib.ListN.{length, getD, drop, length-map, List·getD-map}
 use Rattle.ledger_rows.specs.Map.{at, Ascending}
-use Rattle.ledger_rows.specs.Layout.{room, secondWide, secondAt, secondsHeld, draftsIn, sequencesIn, stepsIn}
-use Rattle.ledger_series.specs.Series.{meanOf, secondOf, meanDraft, meanBatch, upTo, front, figureOf}
+use Rattle.ledger_rows.specs.Layout.{room, secondWide, secondAt, secondsHeld, draftsIn, sequencesIn, committedIn, stepsIn}
+use Rattle.ledger_series.specs.Series.{meanOf, secondOf, meanDraft, meanBatch, meanCommitted, upTo, front, figureOf}
 use Rattle.ledger_series.proofs.Fronts.{up-is}
 use Rattle.ledger.specs.declared.answer.Count.the-variants.{Is}
 use Rattle.ledger.specs.declared.answer.Figure.the-variants.{Mean}
@@ -23,12 +23,15 @@ use Rattle.ledger_laws.proofs.Laid.{row-second, row-word, held-seconds}
 use Rattle.ledger_laws.proofs.Forth.{Reached, fit-seconds, wide-enough}
 use Rattle.ledger_laws.proofs.Theorem.{afresh, reached-nothing, demand-3}
 
--- of a second and its sums: the mean draft by sequence, and the mean batch by step
+-- of a second and its sums: the mean draft by sequence, the mean batch by step, and the mean committed by sequence
 abbrev pub draftOf : ℕ × Sums → Float
 draftOf r = meanOf (r .1 .drafts) (r .1 .sequences)
 
 abbrev pub batchOf : ℕ × Sums → Float
 batchOf r = meanOf (r .1 .sequences) (r .1 .steps)
+
+abbrev pub meanCommittedOf : ℕ × Sums → Float
+meanCommittedOf r = meanOf (r .1 .committed) (r .1 .sequences)
 
 -- of words that hold what stands, where `rows` are the seconds with their sums
 pub record Shown (s : Standing) (rows : List (ℕ × Sums)) (ws : List ℕ) : Type 0 where
@@ -36,8 +39,8 @@ pub record Shown (s : Standing) (rows : List (ℕ × Sums)) (ws : List ℕ) : Ty
   pub ascending : Ascending ltb eqb rows
   pub sums-are : (t : ℕ) → at ltb eqb t rows ≡ heldSums (sumsAt t (s .changes))
   -- the series is theirs
-  pub series-is : (a : List ℕ) (b c : List Float) → length rows ≤ length a → length rows ≤ length b → length rows ≤ length c
-      → seriesRead ws a b c ≡ (Is (length rows), map (λ r. r .0) rows ++ drop (length rows) a, map draftOf rows ++ drop (length rows) b, map batchOf rows ++ drop (length rows) c)
+  pub series-is : (a : List ℕ) (b c d : List Float) → length rows ≤ length a → length rows ≤ length b → length rows ≤ length c → length rows ≤ length d
+      → seriesRead ws a b c d ≡ (Is (length rows), map (λ r. r .0) rows ++ drop (length rows) a, map draftOf rows ++ drop (length rows) b, map batchOf rows ++ drop (length rows) c, map meanCommittedOf rows ++ drop (length rows) d)
   -- the day figure is theirs
   pub figure-is : dayFigure ws ≡ Mean (figureOf (map draftOf rows))
 
@@ -82,20 +85,29 @@ module _ (s : Standing) (rest : List ℕ) (r : Reached s) where
       let n : getD E (secondAt i + stepsIn) 0 ≡ getD rows i noSecond .1 .steps = word-of i stepsIn h (omega arith) in
       rw (q, n))
 
+  committed-up : upTo (meanCommitted E) (length rows) ≡ map meanCommittedOf rows
+  unfolding meanCommitted
+  committed-up = all-rows (meanCommitted E) meanCommittedOf (λ i h.
+      let d : getD E (secondAt i + committedIn) 0 ≡ getD rows i noSecond .1 .committed = word-of i committedIn h (omega arith) in
+      let q : getD E (secondAt i + sequencesIn) 0 ≡ getD rows i noSecond .1 .sequences = word-of i sequencesIn h (omega arith) in
+      rw (d, q))
+
   pub shown : Shown s rows E
   unfolding seriesRead dayFigure front
   shown = record {
     ascending = seconds-ascend (s .changes);
     sums-are = λ t. at-seconds t (s .changes);
-    series-is = λ a b c h k l. rw (
+    series-is = λ a b c d h k l m. rw (
       le-ltb (length E) room (wide-enough s rest),
       held,
       le-ltb (length a) (length rows) h,
       le-ltb (length b) (length rows) k,
       le-ltb (length c) (length rows) l,
+      le-ltb (length d) (length rows) m,
       seconds-up,
       drafts-up,
       batches-up,
+      committed-up,
     );
     figure-is = rw (le-ltb (length E) room (wide-enough s rest), held, drafts-up);
   }

@@ -12,7 +12,7 @@ use Rattle.ledger_rows.specs.Words.{stored}
 use Rattle.ledger_rows.specs.Map.{at, putAt, without, Ascending, isHeld, before}
 use Rattle.ledger_rows.proofs.Maps.{at-put, length-put, without-put, put-put, put-there as put-held}
 use Rattle.ledger_rows.proofs.Tests.{not-both}
-use Rattle.ledger_rows.specs.Layout.{secondAt, secondsMost, workersMost, draftsIn, sequencesIn, stepsIn}
+use Rattle.ledger_rows.specs.Layout.{secondAt, secondsMost, workersMost, draftsIn, sequencesIn, committedIn, stepsIn}
 use Rattle.ledger_seconds.specs.Seconds.{stepAdded, stepRemoved}
 use Rattle.ledger_workers.specs.Workers.{workerLess, workerSame, pastOf, workerPut, workerDropped}
 use Rattle.ledger_laws.specs.Model.{Worker, Switching, Plan, Sums, more}
@@ -33,7 +33,7 @@ module _ (m : ℕ) (ring : Newest) (workers : List (Worker × Switching)) (rest 
   -- there is room for a first plan, and the sums of one more fit
   unfoldable pub Room : Option Sums → Type 0
   Room none = length seconds < secondsMost
-  Room (some u) = (u .drafts + p .drafts ≤ 2 ^ 64 - 1) × (u .sequences + p .sequences ≤ 2 ^ 64 - 1) × (u .steps + 1 ≤ 2 ^ 64 - 1)
+  Room (some u) = (u .drafts + p .drafts ≤ 2 ^ 64 - 1) × (u .sequences + p .sequences ≤ 2 ^ 64 - 1) × (u .committed + p .committed ≤ 2 ^ 64 - 1) × (u .steps + 1 ≤ 2 ^ 64 - 1)
 
   first-is : at ltb eqb t seconds ≡ none → addPlan p seconds ≡ putAt ltb eqb t (firstOf p) seconds
   unfolding addPlan grown
@@ -62,9 +62,9 @@ module _ (m : ℕ) (ring : Newest) (workers : List (Worker × Switching)) (rest 
   added fits asc (some u) e h =
       let b : ℕ = before ltb eqb t seconds in
       let end : laid (length seconds) m ring workers (putAt ltb eqb t (more p u) seconds) rest ≡ S (addPlan p seconds) = rw (more-is u e, as-long u (more p u) e) in
-      added-there (S seconds) p b (length seconds) (place-second m ring workers rest t seconds fits asc (some u) e) (u .drafts) (u .sequences) (u .steps)
-      (read-second (length seconds) m ring workers rest t seconds fits u e draftsIn (omega arith)) (read-second (length seconds) m ring workers rest t seconds fits u e sequencesIn (omega arith)) (read-second (length seconds) m ring workers rest t seconds fits u e stepsIn (omega arith))
-      (h .0) (h .1) (h .2)
+      added-there (S seconds) p b (length seconds) (place-second m ring workers rest t seconds fits asc (some u) e) (u .drafts) (u .sequences) (u .committed) (u .steps)
+      (read-second (length seconds) m ring workers rest t seconds fits u e draftsIn (omega arith)) (read-second (length seconds) m ring workers rest t seconds fits u e sequencesIn (omega arith)) (read-second (length seconds) m ring workers rest t seconds fits u e committedIn (omega arith)) (read-second (length seconds) m ring workers rest t seconds fits u e stepsIn (omega arith))
+      (h .0) (h .1) (h .2) (h .3)
       ∙ stored-second (length seconds) m ring workers rest t seconds fits u (more p u) e
       ∙ end
 
@@ -88,12 +88,13 @@ module _ (m : ℕ) (ring : Newest) (workers : List (Worker × Switching)) (rest 
       let len : length now ≡ length seconds = rw is (as-long u (more p u) e) in
       let d : u .drafts + p .drafts - p .drafts ≡ u .drafts = omega arith in
       let s : u .sequences + p .sequences - p .sequences ≡ u .sequences = omega arith in
+      let v : u .committed + p .committed - p .committed ≡ u .committed = omega arith in
       let n : u .steps + 1 - 1 ≡ u .steps = omega arith in
       let one : 1 ≤ u .steps = some-steps u refl in
       let two : 1 < u .steps + 1 = omega arith in
-      let fields : (t ∷ (u .drafts + p .drafts - p .drafts) ∷ (u .sequences + p .sequences - p .sequences) ∷ (u .steps + 1 - 1) ∷ []) ≡ secondWords (t, u) = rw (d, s, n) in
-      removed-there (S now) p b (length now) (place-second m ring workers rest t now fits asc (some (more p u)) there) (u .drafts + p .drafts) (u .sequences + p .sequences) (u .steps + 1)
-      (read-second (length now) m ring workers rest t now fits (more p u) there draftsIn (omega arith)) (read-second (length now) m ring workers rest t now fits (more p u) there sequencesIn (omega arith)) (read-second (length now) m ring workers rest t now fits (more p u) there stepsIn (omega arith))
+      let fields : (t ∷ (u .drafts + p .drafts - p .drafts) ∷ (u .sequences + p .sequences - p .sequences) ∷ (u .committed + p .committed - p .committed) ∷ (u .steps + 1 - 1) ∷ []) ≡ secondWords (t, u) = rw (d, s, v, n) in
+      removed-there (S now) p b (length now) (place-second m ring workers rest t now fits asc (some (more p u)) there) (u .drafts + p .drafts) (u .sequences + p .sequences) (u .committed + p .committed) (u .steps + 1)
+      (read-second (length now) m ring workers rest t now fits (more p u) there draftsIn (omega arith)) (read-second (length now) m ring workers rest t now fits (more p u) there sequencesIn (omega arith)) (read-second (length now) m ring workers rest t now fits (more p u) there committedIn (omega arith)) (read-second (length now) m ring workers rest t now fits (more p u) there stepsIn (omega arith))
       two
       ∙ ap (λ (l : List ℕ). stored (secondAt b) l (S now)) fields
       ∙ stored-second (length now) m ring workers rest t now fits (more p u) u there

@@ -56,9 +56,9 @@ withdraw-refused ws n e = by-test (ltb (length ws) room)
     (λ l. rw l)
     (λ l. by-test (ltb 0 (available ws)) (λ m. absurd (done-is-none n (rw (l, m) at e))) (λ m. rw (l, m)))
 
-pub series-refused : (ws seconds : List ℕ) (drafts batches : List Float) (n : ℕ) → seriesRead ws seconds drafts batches .0 ≡ Refused·count n
-    → (seriesRead ws seconds drafts batches .1 ≡ seconds) × (seriesRead ws seconds drafts batches .2 ≡ drafts) × (seriesRead ws seconds drafts batches .3 ≡ batches)
+pub series-refused : (ws seconds : List ℕ) (drafts batches committed : List Float) (n : ℕ) → seriesRead ws seconds drafts batches committed .0 ≡ Refused·count n
+    → (seriesRead ws seconds drafts batches committed .1 ≡ seconds) × (seriesRead ws seconds drafts batches committed .2 ≡ drafts) × (seriesRead ws seconds drafts batches committed .3 ≡ batches) × (seriesRead ws seconds drafts batches committed .4 ≡ committed)
 unfolding seriesRead
-series-refused ws seconds drafts batches n e = by-test (tooShort ws (length seconds) (length drafts) (length batches))
-    (λ l. rw l (refl, refl, refl))
+series-refused ws seconds drafts batches committed n e = by-test (tooShort ws (length seconds) (length drafts) (length batches) (length committed))
+    (λ l. rw l (refl, refl, refl, refl))
     (λ l. absurd (count-is-none _ n (rw l at e)))

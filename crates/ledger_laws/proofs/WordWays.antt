@@ -9,7 +9,7 @@ use lib.Dec.{ltb}
 use lib.ListN.{length, getD, set}
 use Rattle.ledger_rows.specs.Words.{stored, opened, closed}
 use Rattle.ledger_rows.specs.declared.layout.Step.{Step}
-use Rattle.ledger_rows.specs.Layout.{room, secondsMost, workersMost, stepsMost, secondAt, workerAt, draftsIn, sequencesIn, stepsIn, plannedIn, kindIn, workerAIn, workerBIn, widthIn, roundsIn, stallIn}
+use Rattle.ledger_rows.specs.Layout.{room, secondsMost, workersMost, stepsMost, secondAt, workerAt, draftsIn, sequencesIn, committedIn, stepsIn, plannedIn, kindIn, workerAIn, workerBIn, widthIn, roundsIn, stallIn}
 use Rattle.ledger_seconds.specs.Seconds.{secondPlace, secondRaised, secondInserted, stepAdded, secondLowered, stepRemoved}
 use Rattle.ledger_workers.specs.Workers.{workerPlace, pastAt, pastOf, workerStored, workerInserted, workerPut, workerTaken, workerDropped}
 use Rattle.ledger_changes.specs.Changes.{newestAt, stepBack, recordBack, workerBack}
@@ -20,30 +20,31 @@ module _ (ws : List ℕ) (p : Step) (b n : ℕ) where
   abbrev t : ℕ
   t = p .second
 
-  module _ (is : secondPlace ws t ≡ record { row = b; rows = n; known = true }) (x y z : ℕ)
-      (r1 : getD ws (secondAt b + draftsIn) 0 ≡ x) (r2 : getD ws (secondAt b + sequencesIn) 0 ≡ y) (r3 : getD ws (secondAt b + stepsIn) 0 ≡ z) where
-    pub added-there : x + p .drafts ≤ 2 ^ 64 - 1 → y + p .sequences ≤ 2 ^ 64 - 1 → z + 1 ≤ 2 ^ 64 - 1
-        → stepAdded ws p ≡ stored (secondAt b) (t ∷ (x + p .drafts) ∷ (y + p .sequences) ∷ (z + 1) ∷ []) ws
+  module _ (is : secondPlace ws t ≡ record { row = b; rows = n; known = true }) (x y v z : ℕ)
+      (r1 : getD ws (secondAt b + draftsIn) 0 ≡ x) (r2 : getD ws (secondAt b + sequencesIn) 0 ≡ y) (r3 : getD ws (secondAt b + committedIn) 0 ≡ v) (r4 : getD ws (secondAt b + stepsIn) 0 ≡ z) where
+    pub added-there : x + p .drafts ≤ 2 ^ 64 - 1 → y + p .sequences ≤ 2 ^ 64 - 1 → v + p .committed ≤ 2 ^ 64 - 1 → z + 1 ≤ 2 ^ 64 - 1
+        → stepAdded ws p ≡ stored (secondAt b) (t ∷ (x + p .drafts) ∷ (y + p .sequences) ∷ (v + p .committed) ∷ (z + 1) ∷ []) ws
     unfolding stepAdded secondRaised
-    added-there h k l =
+    added-there h k m l =
         let d : min (x + p .drafts) (2 ^ 64 - 1) ≡ x + p .drafts = min-eq-left h in
         let s : min (y + p .sequences) (2 ^ 64 - 1) ≡ y + p .sequences = min-eq-left k in
+        let q : min (v + p .committed) (2 ^ 64 - 1) ≡ v + p .committed = min-eq-left m in
         let c : min (z + 1) (2 ^ 64 - 1) ≡ z + 1 = min-eq-left l in
-        rw (is, r1, r2, r3, d, s, c)
+        rw (is, r1, r2, r3, r4, d, s, q, c)
 
-    pub removed-there : 1 < z → stepRemoved ws p ≡ stored (secondAt b) (t ∷ (x - p .drafts) ∷ (y - p .sequences) ∷ (z - 1) ∷ []) ws
+    pub removed-there : 1 < z → stepRemoved ws p ≡ stored (secondAt b) (t ∷ (x - p .drafts) ∷ (y - p .sequences) ∷ (v - p .committed) ∷ (z - 1) ∷ []) ws
     unfolding stepRemoved secondLowered
-    removed-there h = rw (is, r3, lt-ltb 1 z h, r1, r2)
+    removed-there h = rw (is, r4, lt-ltb 1 z h, r1, r2, r3)
 
   pub added-here : secondPlace ws t ≡ record { row = b; rows = n; known = false } → n < secondsMost
-      → stepAdded ws p ≡ set (opened (secondAt b) (secondAt n) (t ∷ p .drafts ∷ p .sequences ∷ 1 ∷ []) ws) 0 (n + 1)
+      → stepAdded ws p ≡ set (opened (secondAt b) (secondAt n) (t ∷ p .drafts ∷ p .sequences ∷ p .committed ∷ 1 ∷ []) ws) 0 (n + 1)
   unfolding stepAdded secondInserted
   added-here is h = rw (is, lt-ltb n secondsMost h)
 
   pub removed-last : secondPlace ws t ≡ record { row = b; rows = n; known = true } → (z : ℕ) → getD ws (secondAt b + stepsIn) 0 ≡ z → z ≤ 1
-      → stepRemoved ws p ≡ set (closed (secondAt b) (secondAt (n - 1)) (0 ∷ 0 ∷ 0 ∷ 0 ∷ []) ws) 0 (n - 1)
+      → stepRemoved ws p ≡ set (closed (secondAt b) (secondAt (n - 1)) (0 ∷ 0 ∷ 0 ∷ 0 ∷ 0 ∷ []) ws) 0 (n - 1)
   unfolding stepRemoved secondLowered
-  removed-last is z r3 h = rw (is, r3, le-ltb 1 z h)
+  removed-last is z r4 h = rw (is, r4, le-ltb 1 z h)
 
 pub judged-step : (ws : List ℕ) (t : ℕ) → room ≤ length ws → stepJudged ws t ≡ stepRefusal ws t
 unfolding stepJudged
@@ -89,9 +90,10 @@ module _ (ws : List ℕ) (a c b n : ℕ) where
 -- ---- the newest change taken back
 
 module _ (ws : List ℕ) where
-  pub step-plan : (p : Step) → getD ws (newestAt ws + plannedIn) 0 ≡ 1 → getD ws (newestAt ws) 0 ≡ p .second → getD ws (newestAt ws + draftsIn) 0 ≡ p .drafts → getD ws (newestAt ws + sequencesIn) 0 ≡ p .sequences → stepBack ws ≡ stepRemoved ws p
+  pub step-plan : (p : Step) → getD ws (newestAt ws + plannedIn) 0 ≡ 1 → getD ws (newestAt ws) 0 ≡ p .second → getD ws (newestAt ws + draftsIn) 0 ≡ p .drafts → getD ws (newestAt ws + sequencesIn) 0 ≡ p .sequences
+      → getD ws (newestAt ws + committedIn) 0 ≡ p .committed → stepBack ws ≡ stepRemoved ws p
   unfolding stepBack
-  step-plan p e f g h = rw (e, f, g, h)
+  step-plan p e f g h i = rw (e, f, g, h, i)
 
   pub step-none : getD ws (newestAt ws + plannedIn) 0 ≡ 0 → stepBack ws ≡ ws
   unfolding stepBack

@@ -16,7 +16,7 @@ use Rattle.ledger_laws.specs.Model.{Worker, Switching, Plan, Change, pla
 
 -- a second's sums after its first plan, and after one more
 abbrev pub firstOf : Plan → Sums
-firstOf p = record { drafts = p .drafts; sequences = p .sequences; steps = 1 }
+firstOf p = record { drafts = p .drafts; sequences = p .sequences; committed = p .committed; steps = 1 }
 
 unfoldable pub grown : Plan → Option Sums → Sums
 grown p none = firstOf p
@@ -56,7 +56,7 @@ logged (c ∷ cs) = (c, before c cs) ∷ logged cs
 -- ---- as words
 
 abbrev pub secondWords : ℕ × Sums → List ℕ
-secondWords r = r .0 ∷ r .1 .drafts ∷ r .1 .sequences ∷ r .1 .steps ∷ []
+secondWords r = r .0 ∷ r .1 .drafts ∷ r .1 .sequences ∷ r .1 .committed ∷ r .1 .steps ∷ []
 
 abbrev pub workerWords : Worker × Switching → List ℕ
 workerWords r = r .0 .0 ∷ r .0 .1 ∷ r .1 .width ∷ r .1 .rounds ∷ r .1 .stall ∷ []

@@ -21,7 +21,7 @@ pub record Switching : Type 0 where
   pub rounds : ℕ
   pub stall : ℕ
 
--- what a plan adds at its second
+-- what a plan adds at its second: drafts, sequences and committed
 abbrev pub Plan : Type 0
 Plan = Added
 
@@ -36,13 +36,14 @@ pub data Change : Type 0 where
 pub record Sums : Type 0 where
   pub drafts : ℕ
   pub sequences : ℕ
+  pub committed : ℕ
   pub steps : ℕ
 
 abbrev pub nothingYet : Sums
-nothingYet = record { drafts = 0; sequences = 0; steps = 0 }
+nothingYet = record { drafts = 0; sequences = 0; committed = 0; steps = 0 }
 
 abbrev pub more : Plan → Sums → Sums
-more p s = record { drafts = s .drafts + p .drafts; sequences = s .sequences + p .sequences; steps = s .steps + 1 }
+more p s = record { drafts = s .drafts + p .drafts; sequences = s .sequences + p .sequences; committed = s .committed + p .committed; steps = s .steps + 1 }
 
 -- a plan counts at its own second only
 unfoldable pub counted : ℕ → Plan → Sums → Sums
@@ -135,11 +136,12 @@ after (k ∷ ks) s = after ks (step k s)
 abbrev pub nothingStands : Standing
 nothingStands = record { changes = []; left = 0 }
 
--- a plan has 1 to 1,024 sequences, and drafts at most 64 for each
+-- a plan has 1 to 1,024 sequences, drafts at most 64 for each, and commits at most what it drafts
 pub record Small (p : Plan) : Type 0 where
   pub some-sequences : 1 ≤ p .sequences
   pub sequences-small : p .sequences ≤ 1024
   pub drafts-small : p .drafts ≤ 64 * p .sequences
+  pub committed-small : p .committed ≤ p .drafts
 
 unfoldable pub InDomain : List Call → Type 0
 InDomain [] = Unit

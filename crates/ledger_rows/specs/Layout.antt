@@ -19,13 +19,13 @@ stepsMost = 1000000
 
 -- the words of a second: itself and its sums; of a worker: two numbers, width, rounds, the stall's bits; of a change
 abbrev pub secondWide : ℕ
-secondWide = 4
+secondWide = 5
 
 abbrev pub workerWide : ℕ
 workerWide = 5
 
 abbrev pub changeWide : ℕ
-changeWide = 10
+changeWide = 11
 
 -- which word of a second's row has what, behind the second itself; a change has the same first words for what its plan added
 abbrev pub draftsIn : ℕ
@@ -34,30 +34,33 @@ draftsIn = 1
 abbrev pub sequencesIn : ℕ
 sequencesIn = 2
 
+abbrev pub committedIn : ℕ
+committedIn = 3
+
 abbrev pub stepsIn : ℕ
-stepsIn = 3
+stepsIn = 4
 
 -- which word of a change has what, behind those: 1 where it is a plan; the worker's kind, its two numbers, its record from before
 abbrev pub plannedIn : ℕ
-plannedIn = 3
+plannedIn = 4
 
 abbrev pub kindIn : ℕ
-kindIn = 4
+kindIn = 5
 
 abbrev pub workerAIn : ℕ
-workerAIn = 5
+workerAIn = 6
 
 abbrev pub workerBIn : ℕ
-workerBIn = 6
+workerBIn = 7
 
 abbrev pub widthIn : ℕ
-widthIn = 7
+widthIn = 8
 
 abbrev pub roundsIn : ℕ
-roundsIn = 8
+roundsIn = 9
 
 abbrev pub stallIn : ℕ
-stallIn = 9
+stallIn = 10
 
 -- where the changes, the workers and the seconds start, and where row i of each starts
 abbrev pub changesFrom : ℕ

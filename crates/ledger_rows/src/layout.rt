@@ -10,33 +10,35 @@ pub const CHANGES_MOST: usize = 64;
 pub const STEPS_MOST: u64 = 1_000_000;
 
 // The words of a second: itself and its sums. Those of a worker: two numbers, width, rounds, the stall's bits. Those of a change.
-pub const SECOND: usize = 4;
+pub const SECOND: usize = 5;
 
 pub const WORKER: usize = 5;
 
-pub const CHANGE: usize = 10;
+pub const CHANGE: usize = 11;
 
 // Which word of a second's row has what, behind the second itself. A change has the same first words for what its plan added.
 pub const DRAFTS: usize = 1;
 
 pub const SEQUENCES: usize = 2;
 
-pub const STEPS: usize = 3;
+pub const COMMITTED: usize = 3;
+
+pub const STEPS: usize = 4;
 
 // Which word of a change has what, behind those: 1 where it is a plan; the worker's kind, its two numbers, its record from before.
-pub const PLANNED: usize = 3;
+pub const PLANNED: usize = 4;
 
-pub const KIND: usize = 4;
+pub const KIND: usize = 5;
 
-pub const WORKER_A: usize = 5;
+pub const WORKER_A: usize = 6;
 
-pub const WORKER_B: usize = 6;
+pub const WORKER_B: usize = 7;
 
-pub const WIDTH: usize = 7;
+pub const WIDTH: usize = 8;
 
-pub const ROUNDS: usize = 8;
+pub const ROUNDS: usize = 9;
 
-pub const STALL: usize = 9;
+pub const STALL: usize = 10;
 
 // Where the newest changes, the workers and the seconds start.
 pub const CHANGES: usize = 4;
@@ -55,11 +57,12 @@ pub struct Place {
     pub known: bool,
 }
 
-// What a plan adds at its second: its drafts and its sequences. One step goes with them.
+// What a plan adds at its second: its drafts, its sequences, and the committed of its drafts. One step goes with them.
 pub struct Step {
     pub second: u64,
     pub drafts: u64,
     pub sequences: u64,
+    pub committed: u64,
 }
 
 // What a worker's record was before a change: kind 2 where it was held, 1 where there was none, 0 where the change is of no worker.

@@ -14,7 +14,7 @@ use Rattle.ledger_rows.proofs.Tests.{both}
 use Rattle.ledger_rows.proofs.Search.{turn-up, last-within}
 use Rattle.ledger_rows.specs.declared.layout.Place.{Place}
 use Rattle.ledger_rows.specs.declared.layout.Step.{Step}
-use Rattle.ledger_rows.specs.Layout.{secondsMost, secondAt, secondsHeld, draftsIn, sequencesIn, stepsIn, plus}
+use Rattle.ledger_rows.specs.Layout.{secondsMost, secondAt, secondsHeld, draftsIn, sequencesIn, committedIn, stepsIn, plus}
 use Rattle.ledger_seconds.specs.Seconds.{earlierSecond, thatSecond, secondRow, secondPlace, secondRaised, secondInserted, stepAdded, secondLowered, stepRemoved}
 
 -- ---- a turn of the search upward, its step added up once
@@ -114,23 +114,24 @@ module _ (ws : List ℕ) (step : Step) where
   removed-unknown p is k = rw (← is, k)
 
   module _ (i : ℕ) (last : List ℕ) where
-    pub raised-done : (d s n : ℕ) → d ≡ plus (getD ws (secondAt i + draftsIn) 0) (step .drafts) → s ≡ plus (getD ws (secondAt i + sequencesIn) 0) (step .sequences)
-        → n ≡ plus (getD ws (secondAt i + stepsIn) 0) 1
-        → last ≡ stored (secondAt i) (step .second ∷ d ∷ s ∷ n ∷ []) ws → last ≡ secondRaised ws i step
+    pub raised-done : (d s c n : ℕ) → d ≡ plus (getD ws (secondAt i + draftsIn) 0) (step .drafts) → s ≡ plus (getD ws (secondAt i + sequencesIn) 0) (step .sequences)
+        → c ≡ plus (getD ws (secondAt i + committedIn) 0) (step .committed) → n ≡ plus (getD ws (secondAt i + stepsIn) 0) 1
+        → last ≡ stored (secondAt i) (step .second ∷ d ∷ s ∷ c ∷ n ∷ []) ws → last ≡ secondRaised ws i step
     unfolding secondRaised
-    raised-done d s n e f g l = rw (l, e, f, g)
+    raised-done d s c n e f h g l = rw (l, e, f, h, g)
 
-    pub inserted-done : (n : ℕ) → n < secondsMost → last ≡ opened (secondAt i) (secondAt n) (step .second ∷ step .drafts ∷ step .sequences ∷ 1 ∷ []) ws
+    pub inserted-done : (n : ℕ) → n < secondsMost → last ≡ opened (secondAt i) (secondAt n) (step .second ∷ step .drafts ∷ step .sequences ∷ step .committed ∷ 1 ∷ []) ws
         → set last 0 (n + 1) ≡ secondInserted ws i n step
     unfolding secondInserted
     inserted-done n few l = rw (lt-ltb n secondsMost few, l)
 
-    pub lowered-some : (n d s : ℕ) → 1 < getD ws (secondAt i + stepsIn) 0 → d ≡ getD ws (secondAt i + draftsIn) 0 - step .drafts → s ≡ getD ws (secondAt i + sequencesIn) 0 - step .sequences
-        → last ≡ stored (secondAt i) (step .second ∷ d ∷ s ∷ (getD ws (secondAt i + stepsIn) 0 - 1) ∷ []) ws → last ≡ secondLowered ws i n step
+    pub lowered-some : (n d s c : ℕ) → 1 < getD ws (secondAt i + stepsIn) 0 → d ≡ getD ws (secondAt i + draftsIn) 0 - step .drafts → s ≡ getD ws (secondAt i + sequencesIn) 0 - step .sequences
+        → c ≡ getD ws (secondAt i + committedIn) 0 - step .committed
+        → last ≡ stored (secondAt i) (step .second ∷ d ∷ s ∷ c ∷ (getD ws (secondAt i + stepsIn) 0 - 1) ∷ []) ws → last ≡ secondLowered ws i n step
     unfolding secondLowered
-    lowered-some n d s more e f l = rw (lt-ltb _ _ more, l, e, f)
+    lowered-some n d s c more e f g l = rw (lt-ltb _ _ more, l, e, f, g)
 
-    pub lowered-last : (n : ℕ) → getD ws (secondAt i + stepsIn) 0 ≤ 1 → last ≡ closed (secondAt i) (secondAt (n - 1)) (0 ∷ 0 ∷ 0 ∷ 0 ∷ []) ws → set last 0 (n - 1) ≡ secondLowered ws i n step
+    pub lowered-last : (n : ℕ) → getD ws (secondAt i + stepsIn) 0 ≤ 1 → last ≡ closed (secondAt i) (secondAt (n - 1)) (0 ∷ 0 ∷ 0 ∷ 0 ∷ 0 ∷ []) ws → set last 0 (n - 1) ≡ secondLowered ws i n step
     unfolding secondLowered
     lowered-last n one l = rw (le-ltb _ _ one, l)
 

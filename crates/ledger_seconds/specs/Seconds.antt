@@ -7,7 +7,7 @@ use lib.ListN.{getD, set}
 use Rattle.ledger_rows.specs.Words.{stored, opened, closed, lastFirst}
 use Rattle.ledger_rows.specs.declared.layout.Place.{Place}
 use Rattle.ledger_rows.specs.declared.layout.Step.{Step}
-use Rattle.ledger_rows.specs.Layout.{secondsMost, secondAt, secondsHeld, draftsIn, sequencesIn, stepsIn, plus}
+use Rattle.ledger_rows.specs.Layout.{secondsMost, secondAt, secondsHeld, draftsIn, sequencesIn, committedIn, stepsIn, plus}
 
 -- row i is of an earlier second, and of that second
 abbrev pub earlierSecond : List ℕ → ℕ → ℕ → Bool
@@ -31,12 +31,12 @@ secondPlace ws t = record {
 unfoldable pub secondRaised : List ℕ → ℕ → Step → List ℕ
 secondRaised ws i p =
     stored (secondAt i)
-    (p .second ∷ plus (getD ws (secondAt i + draftsIn) 0) (p .drafts) ∷ plus (getD ws (secondAt i + sequencesIn) 0) (p .sequences) ∷ plus (getD ws (secondAt i + stepsIn) 0) 1 ∷ [])
+    (p .second ∷ plus (getD ws (secondAt i + draftsIn) 0) (p .drafts) ∷ plus (getD ws (secondAt i + sequencesIn) 0) (p .sequences) ∷ plus (getD ws (secondAt i + committedIn) 0) (p .committed) ∷ plus (getD ws (secondAt i + stepsIn) 0) 1 ∷ [])
     ws
 
 unfoldable pub secondInserted : List ℕ → ℕ → ℕ → Step → List ℕ
 secondInserted ws i n p =
-    cond (ltb n secondsMost) (set (opened (secondAt i) (secondAt n) (p .second ∷ p .drafts ∷ p .sequences ∷ 1 ∷ []) ws) 0 (n + 1)) ws
+    cond (ltb n secondsMost) (set (opened (secondAt i) (secondAt n) (p .second ∷ p .drafts ∷ p .sequences ∷ p .committed ∷ 1 ∷ []) ws) 0 (n + 1)) ws
 
 unfoldable pub stepAdded : List ℕ → Step → List ℕ
 stepAdded ws p =
@@ -47,9 +47,9 @@ unfoldable pub secondLowered : List ℕ → ℕ → ℕ → Step → List ℕ
 secondLowered ws i n p =
     cond (ltb 1 (getD ws (secondAt i + stepsIn) 0))
     (stored (secondAt i)
-    (p .second ∷ (getD ws (secondAt i + draftsIn) 0 - p .drafts) ∷ (getD ws (secondAt i + sequencesIn) 0 - p .sequences) ∷ (getD ws (secondAt i + stepsIn) 0 - 1) ∷ [])
+    (p .second ∷ (getD ws (secondAt i + draftsIn) 0 - p .drafts) ∷ (getD ws (secondAt i + sequencesIn) 0 - p .sequences) ∷ (getD ws (secondAt i + committedIn) 0 - p .committed) ∷ (getD ws (secondAt i + stepsIn) 0 - 1) ∷ [])
     ws)
-    (set (closed (secondAt i) (secondAt (n - 1)) (0 ∷ 0 ∷ 0 ∷ 0 ∷ []) ws) 0 (n - 1))
+    (set (closed (secondAt i) (secondAt (n - 1)) (0 ∷ 0 ∷ 0 ∷ 0 ∷ 0 ∷ []) ws) 0 (n - 1))
 
 unfoldable pub stepRemoved : List ℕ → Step → List ℕ
 stepRemoved ws p =

@@ -1,5 +1,6 @@
 // The seconds held, ascending, each with its sums.
 use ledger_rows::inner;
+use ledger_rows::layout::COMMITTED;
 use ledger_rows::layout::DRAFTS;
 use ledger_rows::layout::Place;
 use ledger_rows::layout::SECOND;
@@ -129,8 +130,15 @@ fn raise(words: &mut [u64], row: usize, step: Step)
     let at = SECONDS + SECOND * row;
     let more_drafts = sum_of(words[at + DRAFTS], step.drafts);
     let more_sequences = sum_of(words[at + SEQUENCES], step.sequences);
+    let more_committed = sum_of(words[at + COMMITTED], step.committed);
     let more_steps = sum_of(words[at + STEPS], 1);
-    let more = [step.second, more_drafts, more_sequences, more_steps];
+    let more = [
+        step.second,
+        more_drafts,
+        more_sequences,
+        more_committed,
+        more_steps,
+    ];
     inner::put(words, at, &more);
 }
 
@@ -142,7 +150,7 @@ fn insert(words: &mut [u64], row: usize, rows: usize, step: Step)
     if rows < SECONDS_MOST {
         let from = SECONDS + SECOND * row;
         let end = SECONDS + SECOND * rows;
-        let new = [step.second, step.drafts, step.sequences, 1];
+        let new = [step.second, step.drafts, step.sequences, step.committed, 1];
         inner::put_in(words, from, end, &new);
         words[0] = (rows + 1) as u64;
     }
@@ -172,7 +180,14 @@ fn lower(words: &mut [u64], row: usize, rows: usize, step: Step)
     if 1 < steps {
         let less_drafts = rest_of(words[at + DRAFTS], step.drafts);
         let less_sequences = rest_of(words[at + SEQUENCES], step.sequences);
-        let less = [step.second, less_drafts, less_sequences, steps - 1];
+        let less_committed = rest_of(words[at + COMMITTED], step.committed);
+        let less = [
+            step.second,
+            less_drafts,
+            less_sequences,
+            less_committed,
+            steps - 1,
+        ];
         inner::put(words, at, &less);
     } else {
         let end = SECONDS + SECOND * (rows - 1);

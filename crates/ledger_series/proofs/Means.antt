@@ -6,18 +6,19 @@ use native.Mathlib.Numerals.{add-one}
 use borrow.Author.Tests.{eq-eqb, ne-eqb}
 use lib.Ieee.{Float}
 use lib.ListN.{getD}
-use Rattle.ledger_rows.specs.Layout.{secondAt, draftsIn, sequencesIn, stepsIn}
+use Rattle.ledger_rows.specs.Layout.{secondAt, draftsIn, sequencesIn, committedIn, stepsIn}
 use Rattle.float.specs.Floats.{f0, plus, over, whole}
-use Rattle.ledger_series.specs.Series.{meanOf, secondOf, meanDraft, meanBatch, sampleAt, upTo, added, figureOf}
+use Rattle.ledger_series.specs.Series.{meanOf, secondOf, meanDraft, meanBatch, meanCommitted, sampleAt, upTo, added, figureOf}
 use Rattle.ledger_series.proofs.Fronts.{length-up}
 
 pub mean-of : (sum count by : ℕ) (x y : Float) → by ≡ max count 1 → x ≡ whole sum → y ≡ whole by → over x y ≡ meanOf sum count
 mean-of sum count by x y e f g = rw (f, g, e)
 
-pub sample-of : (ws : List ℕ) (i : ℕ) (x y : Float) → x ≡ meanOf (getD ws (secondAt i + draftsIn) 0) (getD ws (secondAt i + sequencesIn) 0) → y ≡ meanOf (getD ws (secondAt i + sequencesIn) 0) (getD ws (secondAt i + stepsIn) 0)
-    → record { second = getD ws (secondAt i) 0; «mean_draft» = x; «mean_decode_batch» = y } ≡ sampleAt ws i
-unfolding secondOf meanDraft meanBatch
-sample-of ws i x y e f = rw (e, f)
+pub sample-of : (ws : List ℕ) (i : ℕ) (x y z : Float) → x ≡ meanOf (getD ws (secondAt i + draftsIn) 0) (getD ws (secondAt i + sequencesIn) 0) → y ≡ meanOf (getD ws (secondAt i + sequencesIn) 0) (getD ws (secondAt i + stepsIn) 0)
+    → z ≡ meanOf (getD ws (secondAt i + committedIn) 0) (getD ws (secondAt i + sequencesIn) 0)
+    → record { second = getD ws (secondAt i) 0; «mean_draft» = x; «mean_decode_batch» = y; «mean_committed» = z } ≡ sampleAt ws i
+unfolding secondOf meanDraft meanBatch meanCommitted
+sample-of ws i x y z e f g = rw (e, f, g)
 
 -- one more
 added-last : (sum : Float) (xs : List Float) (x : Float) → added sum (xs ++ (x ∷ [])) ≡ plus (added sum xs) x

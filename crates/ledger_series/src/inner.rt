@@ -1,5 +1,6 @@
 // A row of the seconds as a sample, and many. Callers keep the storage long enough, and the buffers.
 use crate::DepthSample;
+use ledger_rows::layout::COMMITTED;
 use ledger_rows::layout::DRAFTS;
 use ledger_rows::layout::SECOND;
 use ledger_rows::layout::SECONDS;
@@ -10,7 +11,7 @@ ghost use Prim.Native.Nat.{_≤_, _<_, max};
 ghost use lib.ListN.{length, set};
 ghost use Rattle.float.specs.Floats.{f0};
 ghost use Rattle.ledger_rows.specs.Layout.{room, secondsMost};
-ghost use Rattle.ledger_series.specs.Series.{meanOf, sampleAt, secondOf, meanDraft, meanBatch, upTo, front, added, figureOf};
+ghost use Rattle.ledger_series.specs.Series.{meanOf, sampleAt, secondOf, meanDraft, meanBatch, meanCommitted, upTo, front, added, figureOf};
 
 // The count, or 1 where it is 0.
 fn at_least_one(count: u64) -> u64
@@ -36,47 +37,53 @@ fn sample(words: &[u64], row: usize) -> DepthSample
     let second = words[at];
     let drafts = words[at + DRAFTS];
     let sequences = words[at + SEQUENCES];
+    let committed = words[at + COMMITTED];
     let steps = words[at + STEPS];
     let mean_draft = mean(drafts, sequences);
     let mean_decode_batch = mean(sequences, steps);
+    let mean_committed = mean(committed, sequences);
     DepthSample {
         second,
         mean_draft,
         mean_decode_batch,
+        mean_committed,
     }
 }
 
-// A sample stored in place `row` of three buffers.
+// A sample stored in place `row` of four buffers.
 fn store(
     seconds: &mut [u64],
     mean_drafts: &mut [f64],
     mean_batches: &mut [f64],
+    mean_committed: &mut [f64],
     row: usize,
     one: DepthSample,
 )
-    requires { ⌜ (row < length (now seconds)) × (row < length (now «mean_drafts»)) × (row < length (now «mean_batches»)) ⌝ }
-    ensures { λ _. ⌜ (now (seconds .exit) ≡ set (now (seconds .entry)) row (one .second)) × (now («mean_drafts» .exit) ≡ set (now («mean_drafts» .entry)) row (one .«mean_draft»)) × (now («mean_batches» .exit) ≡ set (now («mean_batches» .entry)) row (one .«mean_decode_batch»)) ⌝ }
+    requires { ⌜ (row < length (now seconds)) × (row < length (now «mean_drafts»)) × (row < length (now «mean_batches»)) × (row < length (now «mean_committed»)) ⌝ }
+    ensures { λ _. ⌜ (now (seconds .exit) ≡ set (now (seconds .entry)) row (one .second)) × (now («mean_drafts» .exit) ≡ set (now («mean_drafts» .entry)) row (one .«mean_draft»)) × (now («mean_batches» .exit) ≡ set (now («mean_batches» .entry)) row (one .«mean_decode_batch»)) × (now («mean_committed» .exit) ≡ set (now («mean_committed» .entry)) row (one .«mean_committed»)) ⌝ }
 {
     seconds[row] = one.second;
     mean_drafts[row] = one.mean_draft;
     mean_batches[row] = one.mean_decode_batch;
+    mean_committed[row] = one.mean_committed;
 }
 
-// The first `rows` rows as samples, at the fronts of three buffers.
+// The first `rows` rows as samples, at the fronts of four buffers.
 pub fn fill(
     words: &[u64],
     rows: usize,
     seconds: &mut [u64],
     mean_drafts: &mut [f64],
     mean_batches: &mut [f64],
+    mean_committed: &mut [f64],
 )
-    requires { ⌜ (rows ≤ secondsMost) × (room ≤ length (now words)) × (rows ≤ length (now seconds)) × (rows ≤ length (now «mean_drafts»)) × (rows ≤ length (now «mean_batches»)) ⌝ }
-    ensures { λ _. ⌜ (now (seconds .exit) ≡ front (secondOf (now (words .entry))) rows (now (seconds .entry))) × (now («mean_drafts» .exit) ≡ front (meanDraft (now (words .entry))) rows (now («mean_drafts» .entry))) × (now («mean_batches» .exit) ≡ front (meanBatch (now (words .entry))) rows (now («mean_batches» .entry))) ⌝ }
+    requires { ⌜ (rows ≤ secondsMost) × (room ≤ length (now words)) × (rows ≤ length (now seconds)) × (rows ≤ length (now «mean_drafts»)) × (rows ≤ length (now «mean_batches»)) × (rows ≤ length (now «mean_committed»)) ⌝ }
+    ensures { λ _. ⌜ (now (seconds .exit) ≡ front (secondOf (now (words .entry))) rows (now (seconds .entry))) × (now («mean_drafts» .exit) ≡ front (meanDraft (now (words .entry))) rows (now («mean_drafts» .entry))) × (now («mean_batches» .exit) ≡ front (meanBatch (now (words .entry))) rows (now («mean_batches» .entry))) × (now («mean_committed» .exit) ≡ front (meanCommitted (now (words .entry))) rows (now («mean_committed» .entry))) ⌝ }
 {
     let mut row = 0;
     while row < rows {
         let one = sample(words, row);
-        store(seconds, mean_drafts, mean_batches, row, one);
+        store(seconds, mean_drafts, mean_batches, mean_committed, row, one);
         row += 1;
     }
 }

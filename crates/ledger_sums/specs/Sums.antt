@@ -4,13 +4,13 @@ use mathlib.Core.List.{List}
 use Prim.Native.Nat.{ℕ, _+_}
 use lib.Dec.{ltb}
 use lib.ListN.{length, getD}
-use Rattle.ledger_rows.specs.Layout.{room, secondAt, secondsHeld, draftsIn, sequencesIn, stepsIn}
+use Rattle.ledger_rows.specs.Layout.{room, secondAt, secondsHeld, draftsIn, sequencesIn, committedIn, stepsIn}
 use Rattle.ledger_sums.specs.declared.answer.Sums.{Sums}
 use Rattle.ledger_sums.specs.declared.answer.Sums.the-variants.{Of, Past, Refused}
 
--- a row's words: its second, its drafts, its sequences, its steps
+-- a row's words: its second, its drafts, its sequences, its committed, its steps
 abbrev pub rowOf : List ℕ → ℕ → Sums
-rowOf ws row = Of (getD ws (secondAt row) 0) (getD ws (secondAt row + draftsIn) 0) (getD ws (secondAt row + sequencesIn) 0) (getD ws (secondAt row + stepsIn) 0)
+rowOf ws row = Of (getD ws (secondAt row) 0) (getD ws (secondAt row + draftsIn) 0) (getD ws (secondAt row + sequencesIn) 0) (getD ws (secondAt row + committedIn) 0) (getD ws (secondAt row + stepsIn) 0)
 
 -- 16: too few words
 unfoldable pub sumsOf : List ℕ → ℕ → Sums

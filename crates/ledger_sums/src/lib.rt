@@ -2,6 +2,7 @@
 pub mod answer;
 
 use crate::answer::Sums;
+use ledger_rows::layout::COMMITTED;
 use ledger_rows::layout::DRAFTS;
 use ledger_rows::layout::ROOM;
 use ledger_rows::layout::SECOND;
@@ -26,11 +27,13 @@ pub fn sums(storage: &[u64], row: u64) -> Sums
     let second = storage[at];
     let drafts = storage[at + DRAFTS];
     let sequences = storage[at + SEQUENCES];
+    let committed = storage[at + COMMITTED];
     let steps = storage[at + STEPS];
     Sums::Of {
         second,
         drafts,
         sequences,
+        committed,
         steps,
     }
 }

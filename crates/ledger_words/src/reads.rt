@@ -59,12 +59,14 @@ fn series(call: &[u64], storage: &[u64], ours: &mut [u64], at: usize) -> usize
     let mut seconds = [0xDEAD_BEEFu64; 4104];
     let mut drafts = [42.0f64; 4104];
     let mut batches = [42.0f64; 4104];
+    let mut committed = [42.0f64; 4104];
     let slots = words::least_at(call, 1, 4104);
     series_in(
         storage,
         &mut seconds[0..slots],
         &mut drafts[0..slots],
         &mut batches[0..slots],
+        &mut committed[0..slots],
         ours,
         at,
     )
@@ -76,15 +78,16 @@ fn series_in(
     seconds: &mut [u64],
     drafts: &mut [f64],
     batches: &mut [f64],
+    committed: &mut [f64],
     ours: &mut [u64],
     at: usize,
 ) -> usize
     ensures { λ r. ⌜ r ≤ length (now (ours .exit)) ⌝ }
 {
-    let read = of_count(ledger::series(storage, seconds, drafts, batches));
+    let read = of_count(ledger::series(storage, seconds, drafts, batches, committed));
     let shown = read.value;
     let next = outcome::put(ours, at, read);
-    put_fronts(shown, seconds, drafts, batches, ours, next)
+    put_fronts(shown, seconds, drafts, batches, committed, ours, next)
 }
 
 fn put_fronts(
@@ -92,6 +95,7 @@ fn put_fronts(
     seconds: &[u64],
     drafts: &[f64],
     batches: &[f64],
+    committed: &[f64],
     ours: &mut [u64],
     at: usize,
 ) -> usize
@@ -100,9 +104,11 @@ fn put_fronts(
     let s = front(shown, seconds.len());
     let d = front(shown, drafts.len());
     let b = front(shown, batches.len());
+    let c = front(shown, committed.len());
     let second = put_words(ours, at, &seconds[0..s]);
     let third = answers::put_floats(ours, second, &drafts[0..d]);
-    answers::put_floats(ours, third, &batches[0..b])
+    let fourth = answers::put_floats(ours, third, &batches[0..b]);
+    answers::put_floats(ours, fourth, &committed[0..c])
 }
 
 // How many slots of a buffer are shown: as many as were written and one more, or all.

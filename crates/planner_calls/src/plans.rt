@@ -11,6 +11,9 @@ use std::num::wrapping_add_u64;
 ghost use Prim.Native.Nat.{_≤_};
 ghost use lib.ListN.{length};
 
+// The words of the storage that there is: eight more than a planner takes.
+pub const WHOLE: usize = ROOM + 8;
+
 // Who asks, for how many sequences, and when.
 pub struct Asker {
     pub a: u64,
@@ -65,7 +68,7 @@ pub fn one(
 {
     let mut drafts = [0xDEAD_BEEFu32; 1088];
     let mut commits = [0xDEAD_BEEFu32; 1088];
-    let mut before = [0u64; 18315];
+    let mut before = [0u64; WHOLE];
     copy(storage, &mut before);
     let planned = lend(
         call,

@@ -25,7 +25,7 @@ use Rattle.asking.specs.Values.{policyValued}
 use Rattle.judged_plans.specs.declared.Planned.{Planned}
 use Rattle.judged_plans.specs.declared.Planned.the-variants.{Empty}
 use Rattle.planner.specs.Plan.{drawn, drawnRefusal, signalsRefusal, isPut}
-use Rattle.planner_laws.specs.Standing.{workerIn, refusalOn, answerUnless, answerOn, isPlan}
+use Rattle.planner_laws.specs.Standing.{planAnswer, workerIn, decisionOn, refusalOn, answerUnless, answerOn, isPlan}
 
 -- ---- refusals, one after the other
 
@@ -110,6 +110,14 @@ module _ (s : Settings) (a : Ask) (l : Lent) (drafts commits : ℕ) (cs : List C
       let two = unless-empty (eqb (a .sequences) 0) _ (one .1) in
       let none : a .sequences ≡ 0 → ⊥ = eqb-false (a .sequences) 0 (two .0) in
       not-zero (a .sequences) none
+
+  -- and all its rounds are drawn
+  pub draws-there : isPlan (answerOn s a l drafts commits cs) ≡ true → isPlan (planAnswer (drawn s a l .answer) (decisionOn s a l (recordOf (workerIn s a l) cs) .weighed)) ≡ true
+  unfolding answerOn
+  draws-there e =
+      let one = unless-plan (settingsRefusal s (l .positions)) _ e in
+      let two = unless-empty (eqb (a .sequences) 0) _ (one .1) in
+      unless-plan (refusalOn s a l drafts commits cs) _ (two .1) .1
 
   pub passed : 1 ≤ a .sequences → refusalOn s a l drafts commits cs ≡ 0 → Passed s a l cs
   unfolding refusalOn

@@ -35,7 +35,7 @@ use Rattle.judged_plans.specs.declared.Planned.{Planned}
 use Rattle.judged_plans.specs.declared.Planned.the-variants.{Plan, Empty, Refused}
 use Rattle.planning.specs.Acting.{stepOf}
 use Rattle.planner.specs.Plan.{Left, curveOf, drawnBy, drawn, signalsRefusal, best, planRefusal, made, unlessRefused, nothingPlanned, planned}
-use Rattle.planner_laws.proofs.Gated.{gate-weighed}
+use Rattle.deciding.proofs.Gated.{gate-weighed}
 
 -- ---- an accepted plan
 
@@ -48,7 +48,7 @@ module _ (s : Settings) (a : Ask) (l : Lent) (ws ds cs : List ℕ) where
     pub draws-are : drawn s a l .answer ≡ Used used
     pub weighed-are : weighed ≡ decision .weighed
     -- the storage has the step and the change; drafts and commits stand at the fronts
-    pub storage-is : left .storage ≡ recorded ws (stepOf a (decision .drafts)) (decision .change) .1
+    pub storage-is : left .storage ≡ recorded ws (stepOf a (decision .drafts) (drawn s a l .commits)) (decision .change) .1
     pub drafts-are : left .drafts ≡ decision .drafts ++ drop (a .sequences) ds
     pub commits-are : left .commits ≡ drawn s a l .commits ++ drop (a .sequences) cs
 

@@ -1,11 +1,12 @@
 pub mod Unwritten
 pub mod Accepted
-pub mod Gated
 pub mod Drafts
 pub mod Words
 pub mod Theorem
+pub mod Counted
 pub mod Anew
 pub mod Answers
+pub mod Survived
 pub mod Corollaries
 pub mod Faults
 pub mod Numbers

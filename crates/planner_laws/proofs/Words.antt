@@ -94,7 +94,7 @@ module _ (s : Settings) (a : Ask) (l : Lent) (ws ds cs : List ℕ) where
 
     parts : (first : ℕ) (empty : Bool) (second : ℕ) (draws : Drawn) (d : Decided) → leftBy first empty second draws d ≡ record {
       answer = answerBy first empty second draws d;
-      storage = cond (isPlan (answerBy first empty second draws d)) (recorded ws (stepOf a (d .drafts)) (d .change) .1) ws;
+      storage = cond (isPlan (answerBy first empty second draws d)) (recorded ws (stepOf a (d .drafts) (drawn s a l .commits)) (d .change) .1) ws;
       drafts = cond (isPlan (answerBy first empty second draws d)) (d .drafts ++ drop (a .sequences) ds) ds;
       commits = cond (isPlan (answerBy first empty second draws d)) (drawn s a l .commits ++ drop (a .sequences) cs) cs;
     }

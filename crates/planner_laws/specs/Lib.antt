@@ -1,3 +1,4 @@
 pub mod Calls
 pub mod Standing
+pub mod Booked
 pub mod Used

@@ -48,9 +48,9 @@ module _ (s : Settings) (a : Ask) (l : Lent) where
   abbrev pub decisionOn : Option Switching → Decided
   decisionOn o = decidedBy (best s a l) s a l (curveOf s a l) (s .policy) (pastFrom o)
 
-  -- what is added at the second in which its step ends: the drafts and the sequences
+  -- what is added at the second in which its step ends: the drafts, the sequences, and what the commits that are drawn accept
   abbrev pub stepOn : Option Switching → Step
-  stepOn o = stepOf a (decisionOn o .drafts)
+  stepOn o = stepOf a (decisionOn o .drafts) (drawn s a l .commits)
 
   -- what switching makes of the worker's record
   abbrev pub newRecord : Option Switching → Switching

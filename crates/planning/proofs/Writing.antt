@@ -2,13 +2,11 @@
 use mathlib.Core.Path.{_≡_, refl, sym, ap, _∙_}
 use mathlib.Core.Bool.{true, false, not}
 use mathlib.Core.List.{List}
-use Prim.Native.Nat.{ℕ, _+_, _*_, _≤_, _<_}
-use native.Mathlib.Numerals.{add-one}
+use Prim.Native.Nat.{ℕ, _≤_}
 use native.Mathlib.Omega.{arith}
 use lib.Dec.{ltb}
 use borrow.Author.Tests.{ltb-false}
-use lib.ListN.{length, getD, drop, drop-of-length-le}
-use lib.Seq.{drop-cons}
+use lib.ListN.{length, length-take}
 use lib.Ieee.{Float}
 use Rattle.numeral.specs.Moment.{secondOf}
 use Rattle.switch_settings.specs.Switch.{isUnconstrained}
@@ -16,6 +14,8 @@ use Rattle.switch_settings.specs.declared.SwitchConstraints.{SwitchConstraints}
 use Rattle.ledger_rows.specs.Layout.{room}
 use Rattle.ledger_rows.specs.declared.layout.Past.{Past}
 use Rattle.ledger_rows.specs.declared.layout.Step.{Step}
+use Rattle.verifies.specs.declared.inner.Counts.{Counts}
+use Rattle.verifies.specs.Accepted.{countsOf, Shallow}
 use Rattle.ledger_rows.proofs.Tests.{by-test}
 use Rattle.ledger_workers.specs.Workers.{pastOf}
 use Rattle.ledger_acts.specs.Acts.{plainDone, decidedDone}
@@ -27,30 +27,12 @@ use Rattle.settings.specs.declared.Policy.the-variants.{Fixed, GoodputBudget, G
 use Rattle.settings.specs.declared.Settings.{Settings}
 use Rattle.asked_rooms.specs.declared.Ask.{Ask}
 use Rattle.asking.specs.Asked.{Lent}
-use Rattle.deciding.specs.Deciding.{Decided, decidedBy, totalOf}
+use Rattle.asking.proofs.Passed.{under-le}
+use Rattle.deciding.specs.Deciding.{Decided, decidedBy}
+use Rattle.deciding.proofs.Narrow.{loop-low, decided-narrow}
+use Rattle.deciding.specs.Ready.{looped}
 use Rattle.planning.specs.Steps.{putUnder, curveOf}
 use Rattle.planning.specs.Acting.{actedBy, Priced, Judged, decidedPriced, changeJudged}
-
--- ---- a sum that is under way
-pub record Summed (drafts : List ℕ) (sum k : ℕ) : Type 0 where
-  pub low : k ≤ length drafts
-  pub small : sum ≤ k * 4294967295
-  pub is : totalOf drafts ≡ sum + totalOf (drop k drafts)
-
-module _ (drafts : List ℕ) where
-  pub summed-none : Summed drafts 0 0
-  summed-none = record { low = omega arith; small = omega arith; is = omega arith }
-
-  total-next : (k : ℕ) → k < length drafts → totalOf (drop k drafts) ≡ getD drafts k 0 + totalOf (drop (k + 1) drafts)
-  unfolding totalOf
-  total-next k h = ap totalOf (drop-cons drafts k 0 h) ∙ ap (λ (i : ℕ). getD drafts k 0 + totalOf (drop i drafts)) (sym (add-one k))
-
-  pub summed-next : (sum k : ℕ) → k < length drafts → getD drafts k 0 < 4294967296 → Summed drafts sum k → Summed drafts (sum + getD drafts k 0) (k + 1)
-  summed-next sum k h b s = record { low = omega arith; small = omega (arith, s .small); is = omega (arith, s .is, total-next k h) }
-
-  pub summed-all : (sum k : ℕ) → length drafts ≤ k → Summed drafts sum k → sum ≡ totalOf drafts
-  unfolding totalOf
-  summed-all sum k h s = let z : totalOf (drop k drafts) ≡ 0 = ap totalOf (drop-of-length-le drafts h) in omega (arith, s .is, z)
 
 -- ---- what the storage keeps
 pub has-room : (ws : List ℕ) (t : ℕ) → stepJudged ws t ≡ 0 → room ≤ length ws
@@ -90,8 +72,17 @@ module _ (best : List Float → List Float → ℕ) (s : Settings) (a : Ask) (l 
 aggregate-put : (switch : SwitchConstraints) (p : Policy) → p ≡ GatedAggregate → isUnconstrained switch ≡ false → putUnder switch p ≡ true
 aggregate-put switch p e u = ap (putUnder switch) e ∙ ap not u
 
+-- the curve has a price for each depth up to 64 at most
+pub curve-short : (s : Settings) (a : Ask) (l : Lent) → s .gamma ≤ 64 → length (curveOf s a l) ≤ 65
+unfolding curveOf
+curve-short s a l h = simp length-take (omega (arith, under-le (s .policy) (s .model) (s .gamma) (a .depth)))
+
 pub few-drafts : (s : Settings) (a : Ask) (l : Lent) (ws drafts : List ℕ) → Judged s a l ws drafts → (n : ℕ) → n ≡ length drafts → n ≤ 1024
 few-drafts s a l ws drafts j n e = omega (arith, j .priced .room, j .priced .few)
+
+-- there is a round's commits for each draft
+pub all-committed : (s : Settings) (a : Ask) (l : Lent) (ws drafts : List ℕ) → Judged s a l ws drafts → (n : ℕ) → n ≡ length drafts → (m : ℕ) → a .sequences ≤ m → n ≤ m
+all-committed s a l ws drafts j n e m h = omega (arith, j .priced .room)
 
 module _ (s : Settings) (a : Ask) (l : Lent) (ws drafts : List ℕ) (j : Judged s a l ws drafts) (past : Past) (e : putUnder (s .switch) (s .policy) ≡ true → past ≡ pastOf ws (a .a) (a .b)) where
   pub still-priced : Priced s a past l drafts
@@ -115,7 +106,15 @@ module _ (s : Settings) (a : Ask) (l : Lent) (ws drafts : List ℕ) (j : Judged 
     pub change-judged : changeJudged ws (d .change) ≡ 0
     change-judged = ap (λ (x : Decided). changeJudged ws (x .change)) h ∙ change-fits _ s a l (curveOf s a l) (s .policy) past ws (j .worker)
 
-    pub acted-is : (total second : ℕ) (storage : List ℕ) → total ≡ totalOf (d .drafts) → second ≡ secondOf (a .end)
-        → storage ≡ recorded ws (record { second = second; drafts = total; sequences = a .sequences }) (d .change) .1
-        → record { weighed = d .weighed; drafts = d .drafts; storage = storage } ≡ actedBy a ws (decidedPriced s a l (pastOf ws (a .a) (a .b)))
-    acted-is total second storage t u k = rw (k, t, u) (ap (actedBy a ws) decided-same)
+    -- no draft is above 64
+    pub all-shallow : Shallow (d .drafts)
+    all-shallow =
+        let p = still-priced in
+        let short = curve-short s a l (p .shallow) in
+        let narrow = decided-narrow (looped s a (l .loaded)) s a l (curveOf s a l) (p .shallow) (λ es. loop-low (s .drafter) (a .sequences) (a .rates) _ es (curveOf s a l) short) short (s .policy) past (λ g u k. p .held g u k .narrow) in
+        rw h (record { each = λ k inside. narrow .each k (omega (arith, narrow .count)) })
+
+    pub acted-is : (commits : List ℕ) (second : ℕ) (counts : Counts) (storage : List ℕ) → second ≡ secondOf (a .end) → counts ≡ countsOf (d .drafts) commits
+        → storage ≡ recorded ws (record { second = second; drafts = counts .drafts; sequences = a .sequences; committed = counts .committed }) (d .change) .1
+        → record { weighed = d .weighed; drafts = d .drafts; storage = storage } ≡ actedBy a commits ws (decidedPriced s a l (pastOf ws (a .a) (a .b)))
+    acted-is commits second counts storage u v k = rw (k, u, v) (ap (actedBy a commits ws) decided-same)

@@ -19,9 +19,10 @@ use Rattle.ledger.specs.Calls.{stepJudged, workerJudged, recorded}
 use Rattle.settings.specs.declared.Policy.the-variants.{GoodputBudget, GatedAggregate}
 use Rattle.settings.specs.declared.Settings.{Settings}
 use Rattle.settings.specs.Settings.{gammaIn, usesCosts, usesSignals, isTrace}
+use Rattle.verifies.specs.Accepted.{totalOf, committedOf}
 use Rattle.asked_rooms.specs.declared.Ask.{Ask}
 use Rattle.asking.specs.Asked.{Lent}
-use Rattle.deciding.specs.Deciding.{Decided, decidedBy, totalOf}
+use Rattle.deciding.specs.Deciding.{Decided, decidedBy}
 use Rattle.deciding.specs.Ready.{Held, looped}
 use Rattle.planning.specs.Steps.{curveOf, putUnder}
 
@@ -35,16 +36,16 @@ pub record Acted : Type 0 where
 abbrev pub decidedPriced : Settings → Ask → Lent → Past → Decided
 decidedPriced s a l past = decidedBy (looped s a (l .loaded)) s a l (curveOf s a l) (s .policy) past
 
--- what is added at the second in which a plan's step ends: all drafts, and the sequences
-abbrev pub stepOf : Ask → List ℕ → Step
-stepOf a drafts = record { second = secondOf (a .end); drafts = totalOf drafts; sequences = a .sequences }
+-- what is added at the second in which a plan's step ends: all drafts, the sequences, and what their rounds' commits accept
+abbrev pub stepOf : Ask → List ℕ → List ℕ → Step
+stepOf a drafts commits = record { second = secondOf (a .end); drafts = totalOf drafts; sequences = a .sequences; committed = committedOf drafts commits }
 
 -- the step and the worker's record are in the storage
-abbrev pub actedBy : Ask → List ℕ → Decided → Acted
-actedBy a ws d = record {
+abbrev pub actedBy : Ask → List ℕ → List ℕ → Decided → Acted
+actedBy a commits ws d = record {
   weighed = d .weighed;
   drafts = d .drafts;
-  storage = recorded ws (stepOf a (d .drafts)) (d .change) .1;
+  storage = recorded ws (stepOf a (d .drafts) commits) (d .change) .1;
 }
 
 -- ---- the lists that a step reads; the others are left out

@@ -13,23 +13,8 @@ ghost use lib.ListN.{length};
 ghost use Rattle.ledger_rows.specs.Layout.{room};
 ghost use Rattle.ledger_workers.specs.Workers.{pastOf};
 ghost use Rattle.ledger.specs.Calls.{stepJudged, recorded};
-ghost use Rattle.deciding.specs.Deciding.{totalOf};
 ghost use Rattle.planning.specs.Steps.{putUnder};
 ghost use Rattle.planning.specs.Acting.{Judged, actedBy, decidedPriced, changeJudged, lentToAct};
-
-// All drafts together.
-fn total(drafts: &[u32]) -> u64
-    requires { ⌜ length (now drafts) ≤ 1024 ⌝ }
-    ensures { λ r. ⌜ r ≡ totalOf (now (drafts .entry)) ⌝ }
-{
-    let mut sum = 0u64;
-    let mut k = 0usize;
-    while k < drafts.len() {
-        sum += drafts[k] as u64;
-        k += 1;
-    }
-    sum
-}
 
 // What the storage has of the worker, where its record is used; else nothing that is read.
 fn past_used(settings: Settings, ask: Ask, storage: &[u64]) -> Past
@@ -72,7 +57,7 @@ fn keep(storage: &mut [u64], step: Step, change: Decision)
     }
 }
 
-// What is decided is written to the drafts, and kept; the answer is how many slots were weighed.
+// What is decided is written to the drafts, and kept with what the commits accept of it; the answer is how many slots were weighed.
 pub fn act(
     settings: Settings,
     ask: Ask,
@@ -85,11 +70,13 @@ pub fn act(
     signals: &[f64],
     bank_curve: &[f64],
     indices: &[u32],
+    commits: &[u32],
     storage: &mut [u64],
     drafts: &mut [u32],
 ) -> usize
+    requires { ⌜ ask .sequences ≤ length (now commits) ⌝ }
     requires { ⌜ Judged settings ask (lentToAct (now positions) (now roofline) (now depths) (now batches) (now seconds) (now loaded) (now signals) (now «bank_curve») (now indices)) (now storage) (now drafts) ⌝ }
-    ensures { λ r. ⌜ record { weighed = r; drafts = now (drafts .exit); storage = now (storage .exit) } ≡ actedBy ask (now (storage .entry)) (decidedPriced settings ask (lentToAct (now (positions .entry)) (now (roofline .entry)) (now (depths .entry)) (now (batches .entry)) (now (seconds .entry)) (now (loaded .entry)) (now (signals .entry)) (now («bank_curve» .entry)) (now (indices .entry))) (pastOf (now (storage .entry)) (ask .a) (ask .b))) ⌝ }
+    ensures { λ r. ⌜ record { weighed = r; drafts = now (drafts .exit); storage = now (storage .exit) } ≡ actedBy ask (now (commits .entry)) (now (storage .entry)) (decidedPriced settings ask (lentToAct (now (positions .entry)) (now (roofline .entry)) (now (depths .entry)) (now (batches .entry)) (now (seconds .entry)) (now (loaded .entry)) (now (signals .entry)) (now («bank_curve» .entry)) (now (indices .entry))) (pastOf (now (storage .entry)) (ask .a) (ask .b))) ⌝ }
 {
     let past = past_used(settings, ask, storage);
     let choice = pricing::decide_priced(
@@ -108,11 +95,12 @@ pub fn act(
         drafts,
     );
     let change = choice.change;
-    let drafted = total(drafts);
+    let counts = verifies::inner::count(drafts, commits);
     let step = Step {
         second: numeral::second(ask.end),
-        drafts: drafted,
+        drafts: counts.drafts,
         sequences: ask.sequences as u64,
+        committed: counts.committed,
     };
     keep(storage, step, change);
     choice.weighed

@@ -31,23 +31,29 @@ pub fn name_at(names: &[u64], place: usize) -> Name
     }
 }
 
-// How many words a call has, its letter included, and at most those that are left.
-pub fn size(call: &[u64]) -> usize
-    ensures { λ r. ⌜ r ≤ length (now (call .entry)) ⌝ }
+// Where the call behind the one at a place starts, at most at the end.
+pub fn behind(calls: &[u64], at: usize) -> usize
+    requires { ⌜ at ≤ length (now calls) ⌝ }
+    ensures { λ r. ⌜ r ≤ length (now (calls .entry)) ⌝ }
 {
-    let size = words_of(words::at(call, 0));
-    if size <= call.len() { size } else { call.len() }
+    let size = words_of(words::at(calls, at));
+    if size <= calls.len() - at {
+        at + size
+    } else {
+        calls.len()
+    }
 }
 
+// How many words a call has, its letter included.
 fn words_of(letter: u64) -> usize {
     match (letter % 256) as u8 {
-        b'p' => 4,
-        b'd' => 8,
+        b'p' => 5,
+        b'd' => 9,
         b'c' => 2,
         b'j' => 2,
         b'k' => 2,
-        b's' => 6,
-        b'm' => 7,
+        b's' => 7,
+        b'm' => 8,
         b'x' => 2,
         _ => 1,
     }
@@ -82,7 +88,7 @@ fn plan(call: &[u64], decision: Decision, storage: &mut [u64]) -> Outcome {
     of_answer(ledger::record(storage, step, decision))
 }
 
-// What a plan adds, from a place of the call on: its second, its drafts, its sequences.
+// What a plan adds, from a place of the call on: its second, its drafts, its sequences, its committed.
 pub fn step_from(call: &[u64], at: usize) -> Step
     requires { ⌜ at ≤ 8 ⌝ }
 {
@@ -90,18 +96,19 @@ pub fn step_from(call: &[u64], at: usize) -> Step
         second: words::at(call, at),
         drafts: words::at(call, at + 1),
         sequences: words::at(call, at + 2),
+        committed: words::at(call, at + 3),
     }
 }
 
 // The worker's place, and its record behind the decision.
 fn decision(call: &[u64], names: &[u64]) -> Decision {
-    let name = name_at(names, words::least_at(call, 4, MOST));
+    let name = name_at(names, words::least_at(call, 5, MOST));
     Decision::Put {
         a: name.a,
         b: name.b,
-        width: words::at(call, 5),
-        rounds: words::at(call, 6),
-        stall: words::at(call, 7),
+        width: words::at(call, 6),
+        rounds: words::at(call, 7),
+        stall: words::at(call, 8),
     }
 }
 

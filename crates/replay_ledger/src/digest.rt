@@ -14,9 +14,10 @@ pub fn of(
     seconds: &mut [u64],
     drafts: &mut [f64],
     batches: &mut [f64],
+    committed: &mut [f64],
 ) -> Sums {
     let held = held(storage);
-    let all = and_series(held, storage, seconds, drafts, batches);
+    let all = and_series(held, storage, seconds, drafts, batches, committed);
     let figure = of_figure(ledger::day_figure(storage));
     and_workers(and(all, figure), storage, names)
 }
@@ -38,20 +39,30 @@ fn and_series(
     seconds: &mut [u64],
     drafts: &mut [f64],
     batches: &mut [f64],
+    committed: &mut [f64],
 ) -> Sums {
-    let read = of_count(ledger::series(storage, seconds, drafts, batches));
+    let read = of_count(ledger::series(storage, seconds, drafts, batches, committed));
     let count = read.value;
-    and_fronts(and(sums, read), count, seconds, drafts, batches)
+    and_fronts(and(sums, read), count, seconds, drafts, batches, committed)
 }
 
 // The fronts of the buffers, of so many slots and one more.
-fn and_fronts(sums: Sums, count: u64, seconds: &[u64], drafts: &[f64], batches: &[f64]) -> Sums {
+fn and_fronts(
+    sums: Sums,
+    count: u64,
+    seconds: &[u64],
+    drafts: &[f64],
+    batches: &[f64],
+    committed: &[f64],
+) -> Sums {
     let s = front(count, seconds.len());
     let d = front(count, drafts.len());
     let b = front(count, batches.len());
+    let c = front(count, committed.len());
     sums.and_words(&seconds[0..s])
         .and_floats(&drafts[0..d])
         .and_floats(&batches[0..b])
+        .and_floats(&committed[0..c])
 }
 
 fn and_workers(sums: Sums, storage: &[u64], names: &[u64]) -> Sums {

@@ -46,28 +46,32 @@ fn and(before: Outcome, one: Outcome) -> Outcome {
     }
 }
 
-// So many plans of no worker, at seconds that lie a step apart.
+// So many plans of no worker that add the same, at seconds that lie so far apart.
 fn plans(call: &[u64], storage: &mut [u64]) -> Outcome {
     let count = words::at(call, 1);
-    let step = words::at(call, 3);
-    let drafts = words::at(call, 4);
-    let sequences = words::at(call, 5);
-    let mut second = words::at(call, 2);
+    let apart = words::at(call, 2);
+    let mut step = step_from(call, 3);
     let mut all = value(0);
     let mut k = 0u64;
     while k < count {
         k += 1;
-        let one = Step {
-            second,
-            drafts,
-            sequences,
-        };
-        let answer = ledger::record(storage, one, Decision::Nothing);
+        let answer = ledger::record(storage, step, Decision::Nothing);
         let next = and(all, of_answer(answer));
         all = next;
-        second = wrapping_add_u64(second, step);
+        let following = later(step, apart);
+        step = following;
     }
     all
+}
+
+// The same, so many seconds later.
+fn later(step: Step, seconds: u64) -> Step {
+    Step {
+        second: wrapping_add_u64(step.second, seconds),
+        drafts: step.drafts,
+        sequences: step.sequences,
+        committed: step.committed,
+    }
 }
 
 // First decisions of so many workers, from a place on.
@@ -92,7 +96,7 @@ fn decide(call: &[u64], names: &[u64], place: usize, storage: &mut [u64]) -> Out
     let decision = Decision::Put {
         a: name.a,
         b: name.b,
-        width: words::at(call, 6),
+        width: words::at(call, 7),
         rounds: 0,
         stall: 0,
     };

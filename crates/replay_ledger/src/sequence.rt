@@ -1,4 +1,4 @@
-// A case: the words of the storage that are lent, the slots of the three buffers of the series, the workers that the calls name (how many,
+// A case: the words of the storage that are lent, the slots of the four buffers of the series, the workers that the calls name (how many,
 // and two numbers each), and the calls (how many, and the words of each). Answered are four words for each call, its refusal, its value and
 // the two sums of what can be read after it, and last the sums of the storage's words that no call may write.
 use crate::calls;
@@ -16,7 +16,7 @@ ghost use lib.ListN.{length};
 // The storage's words: eight more than a planner takes.
 const WHOLE: usize = ROOM + 8;
 
-// Plays a case on a whole storage and three buffers of the series.
+// Plays a case on a whole storage and four buffers of the series.
 pub fn play(input: &[u64], ours: &mut [u64]) -> usize
     ensures { λ r. ⌜ r ≤ length (now (ours .exit)) ⌝ }
 {
@@ -24,12 +24,14 @@ pub fn play(input: &[u64], ours: &mut [u64]) -> usize
     let mut seconds = [0xDEAD_BEEFu64; 4104];
     let mut drafts = [42.0f64; 4104];
     let mut batches = [42.0f64; 4104];
+    let mut committed = [42.0f64; 4104];
     let at = play_lent(
         input,
         &mut storage,
         &mut seconds,
         &mut drafts,
         &mut batches,
+        &mut committed,
         ours,
     );
     put_sums(ours, at, unwritten(&storage, words::at(input, 0)))
@@ -53,6 +55,7 @@ fn play_lent(
     seconds: &mut [u64],
     drafts: &mut [f64],
     batches: &mut [f64],
+    committed: &mut [f64],
     ours: &mut [u64],
 ) -> usize
     ensures { λ r. ⌜ r ≤ length (now (ours .exit)) ⌝ }
@@ -61,12 +64,14 @@ fn play_lent(
     let s = words::least_at(input, 1, seconds.len());
     let d = words::least_at(input, 2, drafts.len());
     let b = words::least_at(input, 3, batches.len());
+    let m = words::least_at(input, 4, committed.len());
     play_whole(
         input,
         &mut storage[0..w],
         &mut seconds[0..s],
         &mut drafts[0..d],
         &mut batches[0..b],
+        &mut committed[0..m],
         ours,
     )
 }
@@ -78,25 +83,27 @@ fn play_whole(
     seconds: &mut [u64],
     drafts: &mut [f64],
     batches: &mut [f64],
+    committed: &mut [f64],
     ours: &mut [u64],
 ) -> usize
     ensures { λ r. ⌜ r ≤ length (now (ours .exit)) ⌝ }
 {
-    let workers = words::least_at(input, 4, MOST);
-    let behind = lists::behind(input, 4, 2 * workers);
-    if behind < 5 {
+    let workers = words::least_at(input, 5, MOST);
+    let behind = lists::behind(input, 5, 2 * workers);
+    if behind < 6 {
         return 0;
     }
     if input.len() <= behind {
         return 0;
     }
     play_calls(
-        &input[5..behind],
+        &input[6..behind],
         &input[behind..],
         storage,
         seconds,
         drafts,
         batches,
+        committed,
         ours,
     )
 }
@@ -108,20 +115,30 @@ fn play_calls(
     seconds: &mut [u64],
     drafts: &mut [f64],
     batches: &mut [f64],
+    committed: &mut [f64],
     ours: &mut [u64],
 ) -> usize
     requires { ⌜ 1 ≤ length (now calls) ⌝ }
     ensures { λ r. ⌜ r ≤ length (now (ours .exit)) ⌝ }
 {
     let count = words::least_at(calls, 0, MOST);
-    let mut rest = &calls[1..];
+    let mut from = 1usize;
     let mut at = 0usize;
     let mut k = 0usize;
     while k < count {
         k += 1;
-        at = turn(rest, names, storage, seconds, drafts, batches, ours, at);
-        let next = calls::size(rest);
-        rest = &rest[next..];
+        at = turn(
+            &calls[from..],
+            names,
+            storage,
+            seconds,
+            drafts,
+            batches,
+            committed,
+            ours,
+            at,
+        );
+        from = calls::behind(calls, from);
     }
     at
 }
@@ -134,13 +151,14 @@ fn turn(
     seconds: &mut [u64],
     drafts: &mut [f64],
     batches: &mut [f64],
+    committed: &mut [f64],
     ours: &mut [u64],
     at: usize,
 ) -> usize
     ensures { λ r. ⌜ r ≤ length (now (ours .exit)) ⌝ }
 {
     let made = calls::make(call, names, storage);
-    let sums = digest::of(storage, names, seconds, drafts, batches);
+    let sums = digest::of(storage, names, seconds, drafts, batches, committed);
     let next = outcome::put(ours, at, made);
     put_sums(ours, next, sums)
 }

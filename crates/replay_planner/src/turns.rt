@@ -3,14 +3,15 @@
 // call answers, one behind the other.
 use cases::answers;
 use cases::words;
+use planner_calls::plans::WHOLE;
 ghost use Prim.Native.Nat.{_≤_};
 ghost use lib.ListN.{length};
 
-// Plays a case on a storage of eight words more than it takes.
+// Plays a case on a whole storage.
 pub fn play(input: &[u64], floats: &mut [f64], wholes: &mut [u32], ours: &mut [u64]) -> usize
     ensures { λ r. ⌜ r ≤ length (now (ours .exit)) ⌝ }
 {
-    let mut storage = [0xDEAD_BEEFu64; 18315];
+    let mut storage = [0xDEAD_BEEFu64; WHOLE];
     let mut set = [0u64; 33];
     let at = answers::two(ours, 0, 0);
     play_from(input, at, &mut set, floats, wholes, &mut storage, ours)

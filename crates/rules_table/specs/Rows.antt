@@ -35,8 +35,8 @@ pub data Row : Type 0 where
   walk : (width target arrives : ℕ) → Row
   -- of rows of one depth, by batch and seconds: the batches that are kept
   pruned : (rows : List (ℕ × Float)) (batches : List ℕ) → Row
-  -- of plans that end at these times, each of 4 drafts and 2 sequences: a second's drafts, sequences and steps
-  counted : (ends : List Float) (second drafts sequences steps : ℕ) → Row
+  -- of plans that end at these times, each of 4 drafts, 3 of them committed, and 2 sequences: a second's drafts, sequences, committed and steps
+  counted : (ends : List Float) (second drafts sequences committed steps : ℕ) → Row
   -- of decisions toward targets, of which the newest are withdrawn: the width and the counter; the stall is 0
   switched : (targets : List ℕ) (withdrawn : ℕ) (width counter : ℕ) → Row
 
@@ -64,7 +64,7 @@ abbrev pub ofOneDepth : ℕ × Float → cost.Row
 ofOneDepth r = record { depth = 0; batch = r .0; seconds = r .1 }
 
 abbrev pub endsAt : ℕ → Plan
-endsAt t = record { second = t; drafts = 4; sequences = 2 }
+endsAt t = record { second = t; drafts = 4; sequences = 2; committed = 3 }
 
 abbrev pub planned : Float → Call
 planned end = plan (endsAt (secondOf end))
@@ -95,8 +95,8 @@ same (x ∷ xs) (y ∷ ys) = eqb x y && same xs ys
 abbrev pub isChosen : Chosen → List ℕ → ℕ → Bool
 isChosen c widths weighed = same (c .widths) widths && eqb (c .weighed) weighed
 
-abbrev pub areSums : Sums → ℕ → ℕ → ℕ → Bool
-areSums s drafts sequences steps = eqb (s .drafts) drafts && (eqb (s .sequences) sequences && eqb (s .steps) steps)
+abbrev pub areSums : Sums → ℕ → ℕ → ℕ → ℕ → Bool
+areSums s drafts sequences committed steps = eqb (s .drafts) drafts && (eqb (s .sequences) sequences && (eqb (s .committed) committed && eqb (s .steps) steps))
 
 abbrev pub isHeldAs : Option Switching → ℕ → ℕ → Bool
 isHeldAs none width counter = false
@@ -108,7 +108,7 @@ meets (ragged first second widths weighed) = isChosen (raggedChosen (two first s
 meets (block first second widths weighed) = isChosen (blockChosen (two first second) (1 ∷ 1 ∷ []) prices 1 (BlockParallel f0 1) rates [] Default) widths weighed
 meets (walk width target arrives) = eqb (walkCandidates (candidatesOf evens) width target Unlimited) arrives
 meets (pruned rows batches) = same (map (λ (r : cost.Row). r .batch) (kept (map ofOneDepth rows))) batches
-meets (counted ends second drafts sequences steps) = areSums (sumsAt second (after (map planned ends) nothingStands .changes)) drafts sequences steps
+meets (counted ends second drafts sequences committed steps) = areSums (sumsAt second (after (map planned ends) nothingStands .changes)) drafts sequences committed steps
 meets (switched targets withdrawn width counter) =
     isHeldAs (recordOf (0, 0) (after (map decides targets ++ replicate withdrawn back) nothingStands .changes)) width counter
 
@@ -163,8 +163,8 @@ table =
     -- P10
     ∷ pruned ((1, onePointNine) ∷ (2, onePointFive) ∷ (4, f1) ∷ []) (1 ∷ 4 ∷ [])
     -- P11: both seconds
-    ∷ counted ends 5 8 4 2
-    ∷ counted ends 6 4 2 1
+    ∷ counted ends 5 8 4 6 2
+    ∷ counted ends 6 4 2 3 1
     -- P12: the first decision, then both; and the newest withdrawn
     ∷ switched (6 ∷ 0 ∷ []) 0 6 1
     ∷ switched (6 ∷ 0 ∷ 0 ∷ []) 0 4 0

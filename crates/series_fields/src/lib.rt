@@ -1,6 +1,6 @@
 // The parts that the lines of the series, of the day figure and of a collect are made of.
 ghost use Rattle.page.specs.Page.{Added};
-ghost use Rattle.series_fields.specs.Fields.{column, meanColumn, bitsField, seriesSums, floatLine};
+ghost use Rattle.series_fields.specs.Fields.{column, meanColumn, shareColumn, bitsField, seriesSums, floatLine};
 
 // Adds a name and its number in a column of this width.
 pub fn column(page: &mut [u8], used: usize, name: &[u8], width: usize, n: u64) -> usize
@@ -16,6 +16,14 @@ pub fn mean_column(page: &mut [u8], used: usize, name: &[u8], sum: u64, count: u
 {
     let at = page::append(page, used, name);
     columns::append_mean(page, at, 11, sum, count)
+}
+
+// Adds a name and a share.
+pub fn share_column(page: &mut [u8], used: usize, name: &[u8], part: u64, whole: u64) -> usize
+    ensures { λ r. ⌜ Added (now (page .entry)) used (shareColumn (now (name .entry)) part whole) (now (page .exit)) r ⌝ }
+{
+    let at = page::append(page, used, name);
+    columns::append_share(page, at, 4, part, whole)
 }
 
 // Adds a name and a float's bits.
@@ -35,15 +43,17 @@ pub fn series_sums(
     second: u64,
     drafts: u64,
     sequences: u64,
+    committed: u64,
     steps: u64,
 ) -> usize
-    ensures { λ r. ⌜ Added (now (page .entry)) used (seriesSums line second drafts sequences steps) (now (page .exit)) r ⌝ }
+    ensures { λ r. ⌜ Added (now (page .entry)) used (seriesSums line second drafts sequences committed steps) (now (page .exit)) r ⌝ }
 {
     let a = page::append_decimal(page, used, line);
     let b = column(page, a, b",series,second ", 10, second);
     let c = column(page, b, b",drafts ", 8, drafts);
     let d = column(page, c, b",sequences ", 7, sequences);
-    column(page, d, b",steps ", 6, steps)
+    let e = column(page, d, b",committed ", 8, committed);
+    column(page, e, b",steps ", 6, steps)
 }
 
 // A float behind a name, by six decimals and by its bits.

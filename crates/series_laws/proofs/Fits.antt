@@ -12,9 +12,9 @@ use Rattle.page.specs.Spelt.{spelt}
 use Rattle.page.specs.Numbers.{decimal, sixteen, sixDecimals, bar}
 use Rattle.figures.specs.Figures.{limit, outOfRange, millionths, meanBar, zeroFigure, highFigure, figureMillionths, figureText}
 use Rattle.columns.specs.Columns.{blanks, padded}
-use Rattle.columns.proofs.Lengths.{chosen-short, decimal-short, six-short, mean-short}
-use Rattle.series_fields.specs.Fields.{column, meanColumn, bitsField, seriesSums, floatLine}
-use Rattle.series_lines.specs.Lines.{seriesHead, seriesMeans, seriesRow, seriesBits, dayLine, collectLine}
+use Rattle.columns.proofs.Lengths.{chosen-short, decimal-short, six-short, mean-short, share-short}
+use Rattle.series_fields.specs.Fields.{column, meanColumn, shareColumn, bitsField, seriesSums, floatLine}
+use Rattle.series_lines.specs.Lines.{seriesHead, seriesAverages, seriesMeans, seriesRow, seriesBits, dayLine, collectLine}
 
 -- a text of so many bytes at most
 record Short (most : ℕ) (text : List ℕ) : Type 0 where
@@ -80,63 +80,72 @@ mean-column-short : (name : List ℕ) (sum count : ℕ) → Short (length name +
 unfolding meanColumn
 mean-column-short name sum count = joined (word name) (padded-short 11 (record { long = mean-short sum count }))
 
+share-column-short : (name : List ℕ) (part whole : ℕ) → Short (length name + 25) (shareColumn name part whole)
+unfolding shareColumn
+share-column-short name part whole = joined (word name) (padded-short 4 (record { long = share-short part whole }))
+
 bits-field-short : (name : List ℕ) (x : Float) → Short (length name + 16) (bitsField name x)
 unfolding bitsField
 bits-field-short name x = joined (word name) (bits-short (toBits binary64 x))
 
 -- ---- lines
-sums-short : (line second drafts sequences steps : ℕ) → Short 172 (seriesSums line second drafts sequences steps)
+sums-short : (line second drafts sequences committed steps : ℕ) → Short 211 (seriesSums line second drafts sequences committed steps)
 unfolding seriesSums
-sums-short line second drafts sequences steps =
+sums-short line second drafts sequences committed steps =
     joined
     (number line)
     (joined
     (column-short (spelt ",series,second ") 10 second)
     (joined
     (column-short (spelt ",drafts ") 8 drafts)
-    (joined (column-short (spelt ",sequences ") 7 sequences) (column-short (spelt ",steps ") 6 steps))))
+    (joined (column-short (spelt ",sequences ") 7 sequences) (joined (column-short (spelt ",committed ") 8 committed) (column-short (spelt ",steps ") 6 steps)))))
 
-means-short : (drafts sequences steps : ℕ) → Short 162 (seriesMeans drafts sequences steps)
-unfolding seriesMeans
-means-short drafts sequences steps =
+averages-short : (drafts sequences committed steps : ℕ) → Short 189 (seriesAverages drafts sequences committed steps)
+unfolding seriesAverages
+averages-short drafts sequences committed steps =
     joined
     (mean-column-short (spelt ",mean draft ") drafts sequences)
     (joined
     (mean-column-short (spelt ",mean batch ") sequences steps)
-    (joined (word (spelt ",")) (joined (bar-short drafts sequences) (word (spelt "\n")))))
+    (joined (mean-column-short (spelt ",mean committed ") committed sequences) (share-column-short (spelt ",survived ") committed drafts)))
 
-row-short : (line second drafts sequences steps : ℕ) → Short 334 (seriesRow line second drafts sequences steps)
+means-short : (drafts sequences committed steps : ℕ) → Short 251 (seriesMeans drafts sequences committed steps)
+unfolding seriesMeans
+means-short drafts sequences committed steps =
+    joined (averages-short drafts sequences committed steps) (joined (word (spelt ",")) (joined (bar-short drafts sequences) (word (spelt "\n"))))
+
+row-short : (line second drafts sequences committed steps : ℕ) → Short 462 (seriesRow line second drafts sequences committed steps)
 unfolding seriesRow
-row-short line second drafts sequences steps = joined (sums-short line second drafts sequences steps) (means-short drafts sequences steps)
+row-short line second drafts sequences committed steps = joined (sums-short line second drafts sequences committed steps) (means-short drafts sequences committed steps)
 
 head-short : (line seconds : ℕ) → Short 57 (seriesHead line seconds)
 unfolding seriesHead
 head-short line seconds = joined (number line) (joined (word (spelt ",series,seconds ")) (joined (number seconds) (word (spelt "\n"))))
 
-bits-line-short : (line second : ℕ) (draft batch : Float) → Short 122 (seriesBits line second draft batch)
+bits-line-short : (line second : ℕ) (draft batch committed : Float) → Short 154 (seriesBits line second draft batch committed)
 unfolding seriesBits
-bits-line-short line second draft batch =
+bits-line-short line second draft batch committed =
     joined
     (number line)
     (joined
     (column-short (spelt ",series,second ") 10 second)
     (joined
     (bits-field-short (spelt ",mean draft ") draft)
-    (joined (bits-field-short (spelt ",mean batch ") batch) (word (spelt "\n")))))
+    (joined (bits-field-short (spelt ",mean batch ") batch) (joined (bits-field-short (spelt ",mean committed ") committed) (word (spelt "\n"))))))
 
 float-short : (line : ℕ) (name : List ℕ) (x : Float) → Short (20 + (length name + 50)) (floatLine line name x)
 unfolding floatLine
 float-short line name x =
     joined (number line) (joined (word name) (joined (figure-short x) (joined (bits-field-short (spelt ",bits ") x) (word (spelt "\n")))))
 
-pub row-fits : (line second drafts sequences steps : ℕ) → length (seriesRow line second drafts sequences steps) ≤ lineRoom
-row-fits line second drafts sequences steps = omega (arith, row-short line second drafts sequences steps .long)
+pub row-fits : (line second drafts sequences committed steps : ℕ) → length (seriesRow line second drafts sequences committed steps) ≤ lineRoom
+row-fits line second drafts sequences committed steps = omega (arith, row-short line second drafts sequences committed steps .long)
 
 pub head-fits : (line seconds : ℕ) → length (seriesHead line seconds) ≤ lineRoom
 head-fits line seconds = omega (arith, head-short line seconds .long)
 
-pub bits-fit : (line second : ℕ) (draft batch : Float) → length (seriesBits line second draft batch) ≤ lineRoom
-bits-fit line second draft batch = omega (arith, bits-line-short line second draft batch .long)
+pub bits-fit : (line second : ℕ) (draft batch committed : Float) → length (seriesBits line second draft batch committed) ≤ lineRoom
+bits-fit line second draft batch committed = omega (arith, bits-line-short line second draft batch committed .long)
 
 pub day-fits : (line : ℕ) (figure : Float) → length (dayLine line figure) ≤ lineRoom
 day-fits line figure = omega (arith, float-short line (spelt ",day,figure ") figure .long)

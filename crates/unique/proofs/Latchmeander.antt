@@ -6,6 +6,7 @@ use Prim.Native.Nat.{ℕ}
 use lib.Ieee.{Float}
 use Rattle.bank.specs.Read.{bankRead}
 use Rattle.host.specs.Answers.{answerOf, countOf, foundOf, meanOf, stallOf}
+use Rattle.host.specs.Library.{version}
 use Rattle.host.specs.declared.answers.HostCount.{HostCount}
 use Rattle.host.specs.declared.answers.HostFigure.{HostFigure}
 use Rattle.host.specs.declared.answers.HostPlan.{HostPlan}
@@ -19,8 +20,11 @@ use Rattle.latchmeander.specs.Calls.{acceptedCalled, bankHanded, onFirst, planC
 use Rattle.ledger.specs.Calls.{collected, countOf as counted, dayFigure, emptied, seriesRead, withdrawn, workerOf}
 use Rattle.ledger_rows.specs.Layout.{available, room, secondsHeld, workersHeld}
 use Rattle.measured.specs.Fill.{tableRead}
-use Rattle.unique.specs.Only.{OnlyFour, OnlyOne, OnlyTwo}
-use Rattle.unique.proofs.Law.{once, pair-once, tuple-once}
+use Rattle.unique.specs.Only.{OnlyFive, OnlyFour, OnlyOne, OnlyTwo}
+use Rattle.unique.proofs.Law.{five-once, once, pair-once, tuple-once}
+
+pub latchmeander-version-once : OnlyOne (λ (r : ℕ). r ≡ version)
+latchmeander-version-once x y p q = once p q
 
 pub latchmeander-room-once : OnlyOne (λ (r : ℕ). r ≡ room)
 latchmeander-room-once x y p q = once p q
@@ -43,8 +47,8 @@ latchmeander-seconds-held-once storage x y p q = once p q
 pub latchmeander-workers-held-once : (storage : List ℕ) → OnlyOne (λ (r : HostCount). r ≡ countOf (counted storage (workersHeld storage)))
 latchmeander-workers-held-once storage x y p q = once p q
 
-pub latchmeander-series-once : (storage seconds : List ℕ) («mean_drafts» «mean_batches» : List Float) → OnlyFour (λ (r : HostCount) (seconds′ : List ℕ) («mean_drafts′» : List Float) («mean_batches′» : List Float). (r, seconds′, «mean_drafts′», «mean_batches′») ≡ seriesHanded (seriesRead storage seconds «mean_drafts» «mean_batches»))
-latchmeander-series-once storage seconds «mean_drafts» «mean_batches» x b c d y b′ c′ d′ p q = tuple-once p q
+pub latchmeander-series-once : (storage seconds : List ℕ) («mean_drafts» «mean_batches» «mean_committed» : List Float) → OnlyFive (λ (r : HostCount) (seconds′ : List ℕ) («mean_drafts′» : List Float) («mean_batches′» : List Float) («mean_committed′» : List Float). (r, seconds′, «mean_drafts′», «mean_batches′», «mean_committed′») ≡ seriesHanded (seriesRead storage seconds «mean_drafts» «mean_batches» «mean_committed»))
+latchmeander-series-once storage seconds «mean_drafts» «mean_batches» «mean_committed» x b c d e y b′ c′ d′ e′ p q = five-once p q
 
 pub latchmeander-day-figure-once : (storage : List ℕ) → OnlyOne (λ (r : HostFigure). r ≡ meanOf (dayFigure storage))
 latchmeander-day-figure-once storage x y p q = once p q

@@ -12,8 +12,8 @@ use Rattle.ledger.specs.declared.answer.Figure.{Figure}
 use Rattle.ledger.specs.declared.answer.Found.{Found}
 use Rattle.ledger.specs.declared.answer.Stall.{Stall}
 use Rattle.ledger_rows.specs.Layout.{available, secondsHeld, workersHeld}
-use Rattle.unique.specs.Only.{OnlyFour, OnlyOne, OnlyTwo}
-use Rattle.unique.proofs.Law.{once, pair-once, tuple-once}
+use Rattle.unique.specs.Only.{OnlyFive, OnlyOne, OnlyTwo}
+use Rattle.unique.proofs.Law.{five-once, once, pair-once}
 
 pub fresh-once : (storage : List ℕ) → OnlyTwo (λ (r : Answer) (storage′ : List ℕ). (r, storage′) ≡ emptied storage)
 fresh-once storage x b y c p q = pair-once p q
@@ -45,8 +45,8 @@ workers-held-once storage x y p q = once p q
 pub worker-once : (storage : List ℕ) (a b : ℕ) → OnlyOne (λ (r : Found). r ≡ workerOf storage a b)
 worker-once storage a b x y p q = once p q
 
-pub series-once : (storage seconds : List ℕ) («mean_drafts» «mean_batches» : List Float) → OnlyFour (λ (r : Count) (seconds′ : List ℕ) («mean_drafts′» : List Float) («mean_batches′» : List Float). (r, seconds′, «mean_drafts′», «mean_batches′») ≡ seriesRead storage seconds «mean_drafts» «mean_batches»)
-series-once storage seconds «mean_drafts» «mean_batches» x b c d y b′ c′ d′ p q = tuple-once p q
+pub series-once : (storage seconds : List ℕ) («mean_drafts» «mean_batches» «mean_committed» : List Float) → OnlyFive (λ (r : Count) (seconds′ : List ℕ) («mean_drafts′» : List Float) («mean_batches′» : List Float) («mean_committed′» : List Float). (r, seconds′, «mean_drafts′», «mean_batches′», «mean_committed′») ≡ seriesRead storage seconds «mean_drafts» «mean_batches» «mean_committed»)
+series-once storage seconds «mean_drafts» «mean_batches» «mean_committed» x b c d e y b′ c′ d′ e′ p q = five-once p q
 
 pub day-figure-once : (storage : List ℕ) → OnlyOne (λ (r : Figure). r ≡ dayFigure storage)
 day-figure-once storage x y p q = once p q

@@ -1,4 +1,6 @@
 // How many drafts a verify accepts, where a round was planned and where none was.
+pub mod inner;
+
 ghost use mathlib.Core.Path.{_≡_};
 ghost use Rattle.verifies.specs.Accepted.{acceptedOf};
 

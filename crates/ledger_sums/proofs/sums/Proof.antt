@@ -43,6 +43,15 @@ mul-sequences c = search needs
 shared-slice-read-sequences : tie.Need-shared-slice-read-sequences
 shared-slice-read-sequences c = search needs
 
+add-committed : tie.Need-add-committed
+add-committed c = search needs
+
+mul-committed : tie.Need-mul-committed
+mul-committed c = search needs
+
+shared-slice-read-committed : tie.Need-shared-slice-read-committed
+shared-slice-read-committed c = search needs
+
 add-steps : tie.Need-add-steps
 add-steps c = search needs
 
@@ -53,7 +62,7 @@ shared-slice-read-steps : tie.Need-shared-slice-read-steps
 shared-slice-read-steps c = search needs
 
 returns-3 : tie.Need-returns-3
-returns-3 c = told (c .before .before .before .before .before .before .before .before .args .storage .now) (c .before .before .before .before .before .before .before .before .args .row) (c .before .before .before .before .before .held .result) (c .before .before .before .before .before .before .if1 .left) (c .before .before .before .before .before .held .ensures) (c .before .before .before .before .if2 .left)
+returns-3 c = told (c .before .before .before .before .before .before .before .before .before .args .storage .now) (c .before .before .before .before .before .before .before .before .before .args .row) (c .before .before .before .before .before .before .held .result) (c .before .before .before .before .before .before .before .if1 .left) (c .before .before .before .before .before .before .held .ensures) (c .before .before .before .before .before .if2 .left)
 
 pub sums-spec : {M : Type 1} → statement M
 sums-spec =
@@ -72,6 +81,9 @@ sums-spec =
     add-sequences
     mul-sequences
     shared-slice-read-sequences
+    add-committed
+    mul-committed
+    shared-slice-read-committed
     add-steps
     mul-steps
     shared-slice-read-steps

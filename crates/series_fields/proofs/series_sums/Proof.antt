@@ -32,12 +32,18 @@ slice-aggregate-column-4 c = search needs
 column-requires-4 : tie.Need-column-requires-4
 column-requires-4 c κs = search needs
 
+slice-aggregate-column-5 : tie.Need-slice-aggregate-column-5
+slice-aggregate-column-5 c = search needs
+
+column-requires-5 : tie.Need-column-requires-5
+column-requires-5 c κs = search needs
+
 same-length : tie.Need-same-length
 same-length c = search needs
 
 returns : tie.Need-returns
 unfolding seriesSums
-returns c = both (c .before .before .before .before .before .before .before .before .before .before .before .before .before .before .before .before .before .before .before .before .before .before .append-decimal .ensures) (both (c .before .before .before .before .before .before .before .before .before .before .before .before .before .before .before .before .before .column .ensures) (both (c .before .before .before .before .before .before .before .before .before .before .before .before .column2 .ensures) (both (c .before .before .before .before .before .before .before .column3 .ensures) (c .before .before .column4 .ensures))))
+returns c = both (c .before .before .before .before .before .before .before .before .before .before .before .before .before .before .before .before .before .before .before .before .before .before .before .before .before .before .before .append-decimal .ensures) (both (c .before .before .before .before .before .before .before .before .before .before .before .before .before .before .before .before .before .before .before .before .before .before .column .ensures) (both (c .before .before .before .before .before .before .before .before .before .before .before .before .before .before .before .before .before .column2 .ensures) (both (c .before .before .before .before .before .before .before .before .before .before .before .before .column3 .ensures) (both (c .before .before .before .before .before .before .before .column4 .ensures) (c .before .before .column5 .ensures)))))
 
 pub series-sums-spec : {M : Type 1} → statement M
 series-sums-spec =
@@ -52,5 +58,7 @@ series-sums-spec =
     column-requires-3
     slice-aggregate-column-4
     column-requires-4
+    slice-aggregate-column-5
+    column-requires-5
     same-length
     returns)

@@ -26,6 +26,12 @@ slice-aggregate-bits-field-2 c = search needs
 bits-field-requires-2 : tie.Need-bits-field-requires-2
 bits-field-requires-2 c κs = search needs
 
+slice-aggregate-bits-field-3 : tie.Need-slice-aggregate-bits-field-3
+slice-aggregate-bits-field-3 c = search needs
+
+bits-field-requires-3 : tie.Need-bits-field-requires-3
+bits-field-requires-3 c κs = search needs
+
 slice-aggregate-append : tie.Need-slice-aggregate-append
 slice-aggregate-append c = search needs
 
@@ -37,7 +43,7 @@ same-length c = search needs
 
 returns : tie.Need-returns
 unfolding seriesBits
-returns c = both (c .before .before .before .before .before .before .before .before .before .before .before .before .before .before .before .before .before .before .before .before .before .before .append-decimal .ensures) (both (c .before .before .before .before .before .before .before .before .before .before .before .before .before .before .before .before .before .column .ensures) (both (c .before .before .before .before .before .before .before .before .before .before .before .before .bits-field .ensures) (both (c .before .before .before .before .before .before .before .bits-field2 .ensures) (c .before .before .append .ensures))))
+returns c = both (c .before .before .before .before .before .before .before .before .before .before .before .before .before .before .before .before .before .before .before .before .before .before .before .before .before .before .before .append-decimal .ensures) (both (c .before .before .before .before .before .before .before .before .before .before .before .before .before .before .before .before .before .before .before .before .before .before .column .ensures) (both (c .before .before .before .before .before .before .before .before .before .before .before .before .before .before .before .before .before .bits-field .ensures) (both (c .before .before .before .before .before .before .before .before .before .before .before .before .bits-field2 .ensures) (both (c .before .before .before .before .before .before .before .bits-field3 .ensures) (c .before .before .append .ensures)))))
 
 pub series-bits-spec : {M : Type 1} → statement M
 series-bits-spec =
@@ -50,6 +56,8 @@ series-bits-spec =
     bits-field-requires
     slice-aggregate-bits-field-2
     bits-field-requires-2
+    slice-aggregate-bits-field-3
+    bits-field-requires-3
     slice-aggregate-append
     append-requires
     same-length

@@ -5,17 +5,8 @@ use Rattle.series_lines.specs.Lines.{seriesMeans}
 use Rattle.series_lines.proofs.series_means.Statement.{statement}
 use Rattle.series_lines.proofs.series_means.Tie as tie
 
-slice-aggregate-mean-column : tie.Need-slice-aggregate-mean-column
-slice-aggregate-mean-column c = search needs
-
-mean-column-requires : tie.Need-mean-column-requires
-mean-column-requires c κs = search needs
-
-slice-aggregate-mean-column-2 : tie.Need-slice-aggregate-mean-column-2
-slice-aggregate-mean-column-2 c = search needs
-
-mean-column-requires-2 : tie.Need-mean-column-requires-2
-mean-column-requires-2 c κs = search needs
+series-averages-requires : tie.Need-series-averages-requires
+series-averages-requires c κs = search needs
 
 slice-aggregate-append : tie.Need-slice-aggregate-append
 slice-aggregate-append c = search needs
@@ -37,16 +28,13 @@ same-length c = search needs
 
 returns : tie.Need-returns
 unfolding seriesMeans
-returns c = both (c .before .before .before .before .before .before .before .before .before .before .before .before .before .before .before .before .before .before .before .before .before .mean-column .ensures) (both (c .before .before .before .before .before .before .before .before .before .before .before .before .before .before .before .before .mean-column2 .ensures) (both (c .before .before .before .before .before .before .before .before .before .before .before .append .ensures) (both (c .before .before .before .before .before .before .before .append-mean-bar .ensures) (c .before .before .append2 .ensures))))
+returns c = both (c .before .before .before .before .before .before .before .before .before .before .before .before .before .before .before .before .series-averages .ensures) (both (c .before .before .before .before .before .before .before .before .before .before .before .append .ensures) (both (c .before .before .before .before .before .before .before .append-mean-bar .ensures) (c .before .before .append2 .ensures)))
 
 pub series-means-spec : {M : Type 1} → statement M
 series-means-spec =
     tie.close
     (tie.spec
-    slice-aggregate-mean-column
-    mean-column-requires
-    slice-aggregate-mean-column-2
-    mean-column-requires-2
+    series-averages-requires
     slice-aggregate-append
     append-requires
     append-mean-bar-requires

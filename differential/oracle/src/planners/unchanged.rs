@@ -116,6 +116,14 @@ fn planned(planner: &mut SpecPlanner, plan: &Plan) -> Planned {
     }
 }
 
+/// What a plan's rounds accept of its drafts, by the Rust's own `accepted`: the Rust does not add it up.
+pub fn committed(drafts: &[u32], commits: &[u32]) -> u64 {
+    assert_eq!(drafts.len(), commits.len(), "a round for each draft");
+    let rounds = drafts.iter().zip(commits);
+    let accepted = |(&draft, &commits)| u64::from(SpecPlanner::accepted(draft, Some(commits)));
+    rounds.map(accepted).sum()
+}
+
 fn config(world: &World) -> SpeculativeConfig {
     let model = Model {
         kind: world.kind,

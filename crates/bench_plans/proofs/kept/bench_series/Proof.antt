@@ -10,7 +10,7 @@ use Rattle.bench_plans.proofs.kept.bench_series.Statement.{statement}
 use Rattle.bench_plans.proofs.kept.bench_series.Tie as tie
 
 abbrev Series : Type 0
-Series = Count × List ℕ × List Float × List Float
+Series = Count × List ℕ × List Float × List Float × List Float
 
 series-requires : tie.Need-series-requires
 series-requires c κs = search needs
@@ -30,14 +30,14 @@ same-length-2 c = search needs
 same-length-3 : tie.Need-same-length-3
 same-length-3 c = search needs
 
+same-length-4 : tie.Need-same-length-4
+same-length-4 c = search needs
+
 returns : tie.Need-returns
 unfolding countFigure
 returns c =
-    let e = c .before .before .before .before .before .before .before .before .before .series .ensures in
-    (ap countFigure (sym (c .before .answer .given .1) ∙ ap (λ (o : Series). o .0) e), (ap (λ (o : Series). o .1) e, (ap (λ (o : Series). o .2) e, ap (λ (o : Series). o .3) e)))
-
-same-length-4 : tie.Need-same-length-4
-same-length-4 c = search needs
+    let e = c .before .before .before .before .before .before .before .before .before .before .before .series .ensures in
+    (ap countFigure (sym (c .before .answer .given .1) ∙ ap (λ (o : Series). o .0) e), (ap (λ (o : Series). o .1) e, (ap (λ (o : Series). o .2) e, (ap (λ (o : Series). o .3) e, ap (λ (o : Series). o .4) e))))
 
 same-length-5 : tie.Need-same-length-5
 same-length-5 c = search needs
@@ -45,11 +45,17 @@ same-length-5 c = search needs
 same-length-6 : tie.Need-same-length-6
 same-length-6 c = search needs
 
+same-length-7 : tie.Need-same-length-7
+same-length-7 c = search needs
+
+same-length-8 : tie.Need-same-length-8
+same-length-8 c = search needs
+
 returns-2 : tie.Need-returns-2
 unfolding countFigure
 returns-2 c =
-    let e = c .before .before .before .before .before .before .before .before .series .ensures in
-    (ap countFigure (sym (c .enum-told .given .1) ∙ ap (λ (o : Series). o .0) e), (ap (λ (o : Series). o .1) e, (ap (λ (o : Series). o .2) e, ap (λ (o : Series). o .3) e)))
+    let e = c .before .before .before .before .before .before .before .before .before .before .series .ensures in
+    (ap countFigure (sym (c .enum-told .given .1) ∙ ap (λ (o : Series). o .0) e), (ap (λ (o : Series). o .1) e, (ap (λ (o : Series). o .2) e, (ap (λ (o : Series). o .3) e, ap (λ (o : Series). o .4) e))))
 
 pub bench-series-spec : {M : Type 1} → statement M
 bench-series-spec =
@@ -61,8 +67,10 @@ bench-series-spec =
     same-length
     same-length-2
     same-length-3
-    returns
     same-length-4
+    returns
     same-length-5
     same-length-6
+    same-length-7
+    same-length-8
     returns-2)

@@ -7,10 +7,10 @@ use Rattle.day_turns.proofs.told.bit_rows.Statement.{statement}
 use Rattle.day_turns.proofs.told.bit_rows.Tie as tie
 
 abbrev Inv-loop : tie.InvT-loop
-Inv-loop count seconds drafts batches page₀ turn₀ k₀ page turn k = (k ≤ length seconds) × (length page ≡ length page₀)
+Inv-loop count seconds drafts batches committed page₀ turn₀ k₀ page turn k = (k ≤ length seconds) × (length page ≡ length page₀)
 
 abbrev μ-loop : tie.MeasureT-loop
-μ-loop count seconds drafts batches page₀ turn₀ k₀ page turn k = length seconds - k
+μ-loop count seconds drafts batches committed page₀ turn₀ k₀ page turn k = length seconds - k
 
 loop-holds : tie.Need-loop-holds Inv-loop μ-loop
 loop-holds c = search needs
@@ -32,6 +32,9 @@ float-at-requires c κs = search needs
 
 float-at-requires-2 : tie.Need-float-at-requires-2 Inv-loop μ-loop
 float-at-requires-2 c κs = search needs
+
+float-at-requires-3 : tie.Need-float-at-requires-3 Inv-loop μ-loop
+float-at-requires-3 c κs = search needs
 
 bit-row-requires : tie.Need-bit-row-requires Inv-loop μ-loop
 bit-row-requires c κs = search needs
@@ -64,6 +67,7 @@ bit-rows-spec =
     shared-slice-read-bit-row
     float-at-requires
     float-at-requires-2
+    float-at-requires-3
     bit-row-requires
     add-k
     loop-less

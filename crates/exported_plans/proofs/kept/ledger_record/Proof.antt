@@ -23,7 +23,7 @@ same-length c = search needs
 returns : tie.Need-returns
 returns c =
     let a = c .before .before .before .before .before .before .before .args in
-    handed answerOf _ _ _ _ (c .of-answer .ensures) (c .before .before .before .«record» .ensures ∙ ap (λ (d : Decision). recorded (a .storage .now) (record { second = a .second; drafts = a .drafts; sequences = a .sequences }) d) (c .before .before .before .before .before .change-of .ensures))
+    handed answerOf _ _ _ _ (c .of-answer .ensures) (c .before .before .before .«record» .ensures ∙ ap (λ (d : Decision). recorded (a .storage .now) (record { second = a .second; drafts = a .drafts; sequences = a .sequences; committed = a .committed }) d) (c .before .before .before .before .before .change-of .ensures))
 
 pub ledger-record-spec : {M : Type 1} → statement M
 ledger-record-spec =

@@ -19,8 +19,11 @@ same-length-2 c = search needs
 same-length-3 : tie.Need-same-length-3
 same-length-3 c = search needs
 
+same-length-4 : tie.Need-same-length-4
+same-length-4 c = search needs
+
 returns : tie.Need-returns
-returns c = series-handed _ _ _ _ _ _ (c .of-count .ensures) (c .before .before .before .before .before .before .before .series .ensures)
+returns c = series-handed _ _ _ _ _ _ _ (c .of-count .ensures) (c .before .before .before .before .before .before .before .before .before .series .ensures)
 
 pub latchmeander-series-spec : {M : Type 1} → statement M
 latchmeander-series-spec =
@@ -31,4 +34,5 @@ latchmeander-series-spec =
     same-length
     same-length-2
     same-length-3
+    same-length-4
     returns)

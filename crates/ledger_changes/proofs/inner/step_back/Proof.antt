@@ -31,6 +31,15 @@ mul-sequences c = search needs
 slice-read-sequences : tie.Need-slice-read-sequences
 slice-read-sequences c = search needs
 
+add-committed : tie.Need-add-committed
+add-committed c = search needs
+
+mul-committed : tie.Need-mul-committed
+mul-committed c = search needs
+
+slice-read-committed : tie.Need-slice-read-committed
+slice-read-committed c = search needs
+
 add-if1 : tie.Need-add-if1
 add-if1 c = search needs
 
@@ -47,13 +56,13 @@ same-length : tie.Need-same-length
 same-length c = search needs
 
 returns : tie.Need-returns
-returns c = step-back (c .before .before .before .before .before .before .before .before .before .before .before .before .args .words .now) (c .before .before .before .before .before .before .before .before .before .newest-at .result) (c .before .before .before .before .before .before .before .before .before .newest-at .ensures .0) _ (c .before .before .before .before .if1 .taken) (c .before .before .remove-step .ensures)
+returns c = step-back (c .before .before .before .before .before .before .before .before .before .before .before .before .before .args .words .now) (c .before .before .before .before .before .before .before .before .before .before .newest-at .result) (c .before .before .before .before .before .before .before .before .before .before .newest-at .ensures .0) _ (c .before .before .before .before .if1 .taken) (c .before .before .remove-step .ensures)
 
 same-length-2 : tie.Need-same-length-2
 same-length-2 c = search needs
 
 returns-2 : tie.Need-returns-2
-returns-2 c = step-stays (c .before .before .before .before .before .before .before .before .args .words .now) (c .before .before .before .before .before .newest-at .result) (c .before .before .before .before .before .newest-at .ensures .0) (c .if1 .left)
+returns-2 c = step-stays (c .before .before .before .before .before .before .before .before .before .args .words .now) (c .before .before .before .before .before .before .newest-at .result) (c .before .before .before .before .before .before .newest-at .ensures .0) (c .if1 .left)
 
 pub step-back-spec : {M : Type 1} → statement M
 step-back-spec =
@@ -68,6 +77,9 @@ step-back-spec =
     add-sequences
     mul-sequences
     slice-read-sequences
+    add-committed
+    mul-committed
+    slice-read-committed
     add-if1
     mul-if1
     slice-read-if1

@@ -43,8 +43,20 @@ slice-read-rest-of-2 c = search needs
 rest-of-requires-2 : tie.Need-rest-of-requires-2
 rest-of-requires-2 c κs = search needs
 
-sub-t20 : tie.Need-sub-t20
-sub-t20 c = search needs
+add-rest-of-3 : tie.Need-add-rest-of-3
+add-rest-of-3 c = search needs
+
+mul-rest-of-3 : tie.Need-mul-rest-of-3
+mul-rest-of-3 c = search needs
+
+slice-read-rest-of-3 : tie.Need-slice-read-rest-of-3
+slice-read-rest-of-3 c = search needs
+
+rest-of-requires-3 : tie.Need-rest-of-requires-3
+rest-of-requires-3 c κs = search needs
+
+sub-t21 : tie.Need-sub-t21
+sub-t21 c = search needs
 
 slice-aggregate-put : tie.Need-slice-aggregate-put
 slice-aggregate-put c = search needs
@@ -78,8 +90,8 @@ same-length c = search needs
 
 returns : tie.Need-returns
 returns c =
-    let a = c .before .before .before .before .before .before .before .before .before .before .before .before .args in
-    lowered-some (a .words .now) (a .step) (a .row) _ (a .rows) (c .before .before .before .before .before .before .before .rest-of .result) (c .before .before .before .before .before .rest-of2 .result) (c .before .before .before .before .before .before .before .before .before .if1 .taken) (c .before .before .before .before .before .before .before .rest-of .ensures) (c .before .before .before .before .before .rest-of2 .ensures) (c .before .before .put .ensures)
+    let a = c .before .before .before .before .before .before .before .before .before .before .before .before .before .before .args in
+    lowered-some (a .words .now) (a .step) (a .row) _ (a .rows) (c .before .before .before .before .before .before .before .before .before .rest-of .result) (c .before .before .before .before .before .before .before .rest-of2 .result) (c .before .before .before .before .before .rest-of3 .result) (c .before .before .before .before .before .before .before .before .before .before .before .if1 .taken) (c .before .before .before .before .before .before .before .before .before .rest-of .ensures) (c .before .before .before .before .before .before .before .rest-of2 .ensures) (c .before .before .before .before .before .rest-of3 .ensures) (c .before .before .put .ensures)
 
 same-length-2 : tie.Need-same-length-2
 same-length-2 c = search needs
@@ -106,7 +118,11 @@ lower-spec =
     mul-rest-of-2
     slice-read-rest-of-2
     rest-of-requires-2
-    sub-t20
+    add-rest-of-3
+    mul-rest-of-3
+    slice-read-rest-of-3
+    rest-of-requires-3
+    sub-t21
     slice-aggregate-put
     put-requires
     sub-end

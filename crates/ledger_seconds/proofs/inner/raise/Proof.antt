@@ -46,6 +46,18 @@ slice-read-sum-of-3 c = search needs
 sum-of-requires-3 : tie.Need-sum-of-requires-3
 sum-of-requires-3 c κs = search needs
 
+add-sum-of-4 : tie.Need-add-sum-of-4
+add-sum-of-4 c = search needs
+
+mul-sum-of-4 : tie.Need-mul-sum-of-4
+mul-sum-of-4 c = search needs
+
+slice-read-sum-of-4 : tie.Need-slice-read-sum-of-4
+slice-read-sum-of-4 c = search needs
+
+sum-of-requires-4 : tie.Need-sum-of-requires-4
+sum-of-requires-4 c κs = search needs
+
 slice-aggregate-put : tie.Need-slice-aggregate-put
 slice-aggregate-put c = search needs
 
@@ -57,8 +69,8 @@ same-length c = search needs
 
 returns : tie.Need-returns
 returns c =
-    let a = c .before .before .before .before .before .before .before .before .before .before .before .before .args in
-    raised-done (a .words .now) (a .step) (a .row) _ (c .before .before .before .before .before .before .before .before .before .sum-of .result) (c .before .before .before .before .before .before .before .sum-of2 .result) (c .before .before .before .before .before .sum-of3 .result) (c .before .before .before .before .before .before .before .before .before .sum-of .ensures) (c .before .before .before .before .before .before .before .sum-of2 .ensures) (c .before .before .before .before .before .sum-of3 .ensures) (c .before .before .put .ensures)
+    let a = c .before .before .before .before .before .before .before .before .before .before .before .before .before .before .args in
+    raised-done (a .words .now) (a .step) (a .row) _ (c .before .before .before .before .before .before .before .before .before .before .before .sum-of .result) (c .before .before .before .before .before .before .before .before .before .sum-of2 .result) (c .before .before .before .before .before .before .before .sum-of3 .result) (c .before .before .before .before .before .sum-of4 .result) (c .before .before .before .before .before .before .before .before .before .before .before .sum-of .ensures) (c .before .before .before .before .before .before .before .before .before .sum-of2 .ensures) (c .before .before .before .before .before .before .before .sum-of3 .ensures) (c .before .before .before .before .before .sum-of4 .ensures) (c .before .before .put .ensures)
 
 pub raise-spec : {M : Type 1} → statement M
 raise-spec =
@@ -78,6 +90,10 @@ raise-spec =
     mul-sum-of-3
     slice-read-sum-of-3
     sum-of-requires-3
+    add-sum-of-4
+    mul-sum-of-4
+    slice-read-sum-of-4
+    sum-of-requires-4
     slice-aggregate-put
     put-requires
     same-length

@@ -34,6 +34,15 @@ mul-sequences c = search needs
 shared-slice-read-sequences : tie.Need-shared-slice-read-sequences
 shared-slice-read-sequences c = search needs
 
+add-committed : tie.Need-add-committed
+add-committed c = search needs
+
+mul-committed : tie.Need-mul-committed
+mul-committed c = search needs
+
+shared-slice-read-committed : tie.Need-shared-slice-read-committed
+shared-slice-read-committed c = search needs
+
 add-steps : tie.Need-add-steps
 add-steps c = search needs
 
@@ -49,8 +58,11 @@ mean-requires c κs = search needs
 mean-requires-2 : tie.Need-mean-requires-2
 mean-requires-2 c κs = search needs
 
+mean-requires-3 : tie.Need-mean-requires-3
+mean-requires-3 c κs = search needs
+
 returns : tie.Need-returns
-returns c = sample-of (c .before .before .before .before .before .before .before .args .words .now) (c .before .before .before .before .before .before .before .args .row) (c .before .mean .result) (c .mean2 .result) (c .before .mean .ensures) (c .mean2 .ensures)
+returns c = sample-of (c .before .before .before .before .before .before .before .before .before .args .words .now) (c .before .before .before .before .before .before .before .before .before .args .row) (c .before .before .mean .result) (c .before .mean2 .result) (c .mean3 .result) (c .before .before .mean .ensures) (c .before .mean2 .ensures) (c .mean3 .ensures)
 
 pub sample-spec : {M : Type 1} → statement M
 sample-spec =
@@ -66,9 +78,13 @@ sample-spec =
     add-sequences
     mul-sequences
     shared-slice-read-sequences
+    add-committed
+    mul-committed
+    shared-slice-read-committed
     add-steps
     mul-steps
     shared-slice-read-steps
     mean-requires
     mean-requires-2
+    mean-requires-3
     returns)

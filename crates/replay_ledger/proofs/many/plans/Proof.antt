@@ -7,10 +7,10 @@ use Rattle.replay_ledger.proofs.many.plans.Statement.{statement}
 use Rattle.replay_ledger.proofs.many.plans.Tie as tie
 
 abbrev Inv-loop : tie.InvT-loop
-Inv-loop call storage₀ count step drafts sequences second₀ all₀ k₀ storage second all k = (k ≤ count) × (length storage ≡ length storage₀)
+Inv-loop call storage₀ count apart step₀ all₀ k₀ storage step all k = (k ≤ count) × (length storage ≡ length storage₀)
 
 abbrev μ-loop : tie.MeasureT-loop
-μ-loop call storage₀ count step drafts sequences second₀ all₀ k₀ storage second all k = count - k
+μ-loop call storage₀ count apart step₀ all₀ k₀ storage step all k = count - k
 
 at-requires : tie.Need-at-requires Inv-loop μ-loop
 at-requires c κs = search needs
@@ -18,14 +18,8 @@ at-requires c κs = search needs
 at-requires-2 : tie.Need-at-requires-2 Inv-loop μ-loop
 at-requires-2 c κs = search needs
 
-at-requires-3 : tie.Need-at-requires-3 Inv-loop μ-loop
-at-requires-3 c κs = search needs
-
-at-requires-4 : tie.Need-at-requires-4 Inv-loop μ-loop
-at-requires-4 c κs = search needs
-
-at-requires-5 : tie.Need-at-requires-5 Inv-loop μ-loop
-at-requires-5 c κs = search needs
+step-from-requires : tie.Need-step-from-requires Inv-loop μ-loop
+step-from-requires c κs = search needs
 
 value-requires : tie.Need-value-requires Inv-loop μ-loop
 value-requires c κs = search needs
@@ -45,8 +39,8 @@ of-answer-requires c κs = search needs
 and-requires : tie.Need-and-requires Inv-loop μ-loop
 and-requires c κs = search needs
 
-wrapping-add-u64-requires : tie.Need-wrapping-add-u64-requires Inv-loop μ-loop
-wrapping-add-u64-requires c κs = search needs
+later-requires : tie.Need-later-requires Inv-loop μ-loop
+later-requires c κs = search needs
 
 loop-less : tie.Need-loop-less Inv-loop μ-loop
 loop-less c = search needs
@@ -68,16 +62,14 @@ plans-spec =
     μ-loop
     at-requires
     at-requires-2
-    at-requires-3
-    at-requires-4
-    at-requires-5
+    step-from-requires
     value-requires
     loop-holds
     add-k
     record-requires
     of-answer-requires
     and-requires
-    wrapping-add-u64-requires
+    later-requires
     loop-less
     loop-again
     same-length

@@ -7,22 +7,13 @@ use Rattle.replay_ledger.proofs.sequence.play_calls.Statement.{statemen
 use Rattle.replay_ledger.proofs.sequence.play_calls.Tie as tie
 
 abbrev Inv-loop : tie.InvT-loop
-Inv-loop names calls storage₀ seconds₀ drafts₀ batches₀ ours₀ count rest₀ at₀ k₀ storage seconds drafts batches ours rest at k = (k ≤ count) × (length rest ≤ length calls) × (at ≤ length ours) × (length storage ≡ length storage₀) × (length seconds ≡ length seconds₀) × (length drafts ≡ length drafts₀) × (length batches ≡ length batches₀) × (length ours ≡ length ours₀)
+Inv-loop names calls storage₀ seconds₀ drafts₀ batches₀ committed₀ ours₀ count from₀ at₀ k₀ storage seconds drafts batches committed ours from at k = (k ≤ count) × (from ≤ length calls) × (at ≤ length ours) × (length storage ≡ length storage₀) × (length seconds ≡ length seconds₀) × (length drafts ≡ length drafts₀) × (length batches ≡ length batches₀) × (length committed ≡ length committed₀) × (length ours ≡ length ours₀)
 
 abbrev μ-loop : tie.MeasureT-loop
-μ-loop names calls storage₀ seconds₀ drafts₀ batches₀ ours₀ count rest₀ at₀ k₀ storage seconds drafts batches ours rest at k = count - k
+μ-loop names calls storage₀ seconds₀ drafts₀ batches₀ committed₀ ours₀ count from₀ at₀ k₀ storage seconds drafts batches committed ours from at k = count - k
 
 least-at-requires : tie.Need-least-at-requires Inv-loop μ-loop
 least-at-requires c κs = search needs
-
-sub-rest : tie.Need-sub-rest Inv-loop μ-loop
-sub-rest c = search needs
-
-part-rest-start : tie.Need-part-rest-start Inv-loop μ-loop
-part-rest-start c = search needs
-
-part-rest-end : tie.Need-part-rest-end Inv-loop μ-loop
-part-rest-end c = search needs
 
 loop-holds : tie.Need-loop-holds Inv-loop μ-loop
 loop-holds c = search needs
@@ -30,23 +21,23 @@ loop-holds c = search needs
 add-k : tie.Need-add-k Inv-loop μ-loop
 add-k c = search needs
 
+mul-turn : tie.Need-mul-turn Inv-loop μ-loop
+mul-turn c = search needs
+
+sub-turn : tie.Need-sub-turn Inv-loop μ-loop
+sub-turn c = search needs
+
+part-turn-start : tie.Need-part-turn-start Inv-loop μ-loop
+part-turn-start c = search needs
+
+part-turn-end : tie.Need-part-turn-end Inv-loop μ-loop
+part-turn-end c = search needs
+
 turn-requires : tie.Need-turn-requires Inv-loop μ-loop
 turn-requires c κs = search needs
 
-size-requires : tie.Need-size-requires Inv-loop μ-loop
-size-requires c κs = search needs
-
-mul-rest : tie.Need-mul-rest Inv-loop μ-loop
-mul-rest c = search needs
-
-sub-rest-2 : tie.Need-sub-rest-2 Inv-loop μ-loop
-sub-rest-2 c = search needs
-
-part-rest-start-2 : tie.Need-part-rest-start-2 Inv-loop μ-loop
-part-rest-start-2 c = search needs
-
-part-rest-end-2 : tie.Need-part-rest-end-2 Inv-loop μ-loop
-part-rest-end-2 c = search needs
+behind-requires : tie.Need-behind-requires Inv-loop μ-loop
+behind-requires c κs = search needs
 
 loop-less : tie.Need-loop-less Inv-loop μ-loop
 loop-less c = search needs
@@ -69,6 +60,9 @@ same-length-4 c = search needs
 same-length-5 : tie.Need-same-length-5 Inv-loop μ-loop
 same-length-5 c = search needs
 
+same-length-6 : tie.Need-same-length-6 Inv-loop μ-loop
+same-length-6 c = search needs
+
 returns : tie.Need-returns Inv-loop μ-loop
 returns c = search needs
 
@@ -79,17 +73,14 @@ play-calls-spec =
     Inv-loop
     μ-loop
     least-at-requires
-    sub-rest
-    part-rest-start
-    part-rest-end
     loop-holds
     add-k
+    mul-turn
+    sub-turn
+    part-turn-start
+    part-turn-end
     turn-requires
-    size-requires
-    mul-rest
-    sub-rest-2
-    part-rest-start-2
-    part-rest-end-2
+    behind-requires
     loop-less
     loop-again
     same-length
@@ -97,4 +88,5 @@ play-calls-spec =
     same-length-3
     same-length-4
     same-length-5
+    same-length-6
     returns)

@@ -14,6 +14,8 @@ pub type Sums = (u64, u64, u64, u64);
 pub struct Afresh {
     pub series: Vec<DepthSample>,
     pub sums: Vec<Sums>,
+    /// The committed of each second, which the Rust does not count: plain sums alone.
+    pub committed: Vec<u64>,
     /// The record of each of the sequence's workers.
     pub records: Vec<Option<Record>>,
     pub workers_held: usize,
@@ -34,9 +36,18 @@ impl Afresh {
         Afresh {
             series: planner.depth_series(),
             sums,
+            committed: committed(standing),
             records,
             workers_held,
         }
+    }
+
+    /// The bits of the mean committed of each second, by sequence.
+    pub fn mean_committed(&self) -> Vec<u64> {
+        let mean = |(&committed, &(_, _, sequences, _)): (&u64, &Sums)| {
+            (committed as f64 / sequences.max(1) as f64).to_bits()
+        };
+        self.committed.iter().zip(&self.sums).map(mean).collect()
     }
 
     /// The bits of the day figure, which the Rust does not have.
@@ -55,13 +66,9 @@ fn planner(standing: &[Change], workers: &[Worker]) -> SpecPlanner {
     let mut planner = SpecPlanner::over(any_config(), None, None);
     for change in standing {
         match *change {
-            Change::Plan {
-                end,
-                drafts,
-                sequences,
-                decision,
-            } => {
-                planner.count_step(f64::from_bits(end), drafts, sequences as usize);
+            Change::Plan { step, decision } => {
+                let end = f64::from_bits(step.end);
+                planner.count_step(end, step.drafts, step.sequences as usize);
                 if let Some((worker, target)) = decision {
                     let worker = &workers[worker as usize];
                     planner.choose(worker.key(), target, &worker.curve, &worker.switch);
@@ -101,19 +108,24 @@ fn records_alone(standing: &[Change], workers: &[Worker]) -> Vec<Option<Record>>
 fn added(standing: &[Change]) -> Vec<Sums> {
     let mut seconds: BTreeMap<u64, (u64, u64, u64)> = BTreeMap::new();
     for change in standing {
-        if let Change::Plan {
-            end,
-            drafts,
-            sequences,
-            ..
-        } = *change
-        {
-            let sums = seconds.entry(second(end)).or_default();
-            *sums = (sums.0 + drafts, sums.1 + sequences, sums.2 + 1);
+        if let Change::Plan { step, .. } = change {
+            let sums = seconds.entry(second(step.end)).or_default();
+            *sums = (sums.0 + step.drafts, sums.1 + step.sequences, sums.2 + 1);
         }
     }
     seconds
         .into_iter()
         .map(|(at, (drafts, sequences, steps))| (at, drafts, sequences, steps))
         .collect()
+}
+
+/// The committed of the standing plans at each second, ascending.
+fn committed(standing: &[Change]) -> Vec<u64> {
+    let mut seconds: BTreeMap<u64, u64> = BTreeMap::new();
+    for change in standing {
+        if let Change::Plan { step, .. } = change {
+            *seconds.entry(second(step.end)).or_default() += step.committed;
+        }
+    }
+    seconds.into_values().collect()
 }

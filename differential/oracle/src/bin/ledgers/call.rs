@@ -1,19 +1,39 @@
 //! The calls of a sequence. A worker is named by its place among the sequence's workers.
 
-/// The calls that a sequence makes. An end time is its bits.
+/// What a plan adds at the second of its end. An end time is its bits.
+#[derive(Clone, Copy, Debug)]
+pub struct Step {
+    pub end: u64,
+    pub drafts: u64,
+    pub sequences: u64,
+    pub committed: u64,
+}
+
+impl Step {
+    /// All sequences draft the same width, and so many in a hundred of all drafts are committed.
+    pub fn of_width(width: u32, end: u64, sequences: u64, share: u64) -> Step {
+        let drafts = u64::from(width) * sequences;
+        Step {
+            end,
+            drafts,
+            sequences,
+            committed: drafts * share / 100,
+        }
+    }
+}
+
+/// The calls that a sequence makes.
 #[derive(Clone, Debug)]
 pub enum Call {
     Fresh,
     /// A plan of no worker.
-    Plan {
-        end: u64,
-        drafts: u64,
-        sequences: u64,
-    },
+    Plan(Step),
     /// A plan that decides its worker's width.
     Decide {
         end: u64,
         sequences: u64,
+        /// How many in a hundred of its drafts are committed.
+        share: u64,
         worker: usize,
         target: u32,
     },
@@ -27,20 +47,20 @@ pub enum Call {
     JudgeWorker {
         worker: usize,
     },
-    /// Plans of no worker, so many, at seconds that lie `step` apart.
+    /// Plans of no worker, so many, that add the same from the first one's second on, `apart` seconds
+    /// from each other.
     ManyPlans {
         count: u64,
-        second: u64,
-        step: u64,
-        drafts: u64,
-        sequences: u64,
+        apart: u64,
+        first: Step,
     },
     /// First decisions of so many workers, from a place on, that have no record.
     ManyWorkers {
         count: usize,
         from: usize,
-        second: u64,
+        end: u64,
         sequences: u64,
+        share: u64,
         target: u32,
     },
     ManyWithdrawals {

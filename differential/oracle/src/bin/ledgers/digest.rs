@@ -1,8 +1,13 @@
 //! What can be read after a call, as two sums over its words.
 use crate::afresh::Afresh;
 
-/// What a slot of each of the series' buffers holds before the first call: 0xDEADBEEF, twice 42.0.
-pub const BEFORE: [u64; 3] = [0xDEAD_BEEF, 0x4045_0000_0000_0000, 0x4045_0000_0000_0000];
+/// What a slot of each of the series' buffers holds before the first call: 0xDEADBEEF, three times 42.0.
+pub const BEFORE: [u64; 4] = [
+    0xDEAD_BEEF,
+    0x4045_0000_0000_0000,
+    0x4045_0000_0000_0000,
+    0x4045_0000_0000_0000,
+];
 
 /// The sum of the words, and the sum of the sums up to each word, which tells places apart.
 #[derive(Clone, Copy, Debug, Default, PartialEq, Eq)]
@@ -21,16 +26,16 @@ impl Sums {
     }
 }
 
-/// The buffers that the series is written to: seconds, mean drafts, mean batches.
+/// The buffers that the series is written to: seconds, mean drafts, mean batches, mean committed.
 pub struct Buffers {
-    slots: [Vec<u64>; 3],
+    slots: [Vec<u64>; 4],
 }
 
 impl Buffers {
-    pub fn lent(slots: [usize; 3]) -> Buffers {
+    pub fn lent(slots: [usize; 4]) -> Buffers {
         let lent = |buffer: usize| vec![BEFORE[buffer]; slots[buffer]];
         Buffers {
-            slots: [lent(0), lent(1), lent(2)],
+            slots: [lent(0), lent(1), lent(2), lent(3)],
         }
     }
 
@@ -46,6 +51,8 @@ impl Buffers {
             self.slots[1][at] = sample.mean_draft.to_bits();
             self.slots[2][at] = sample.mean_decode_batch.to_bits();
         }
+        let committed = held.mean_committed();
+        self.slots[3][..count].copy_from_slice(&committed);
         [0, count as u64]
     }
 

@@ -1,5 +1,5 @@
 //! Draws what sequences are made of: clocks, workers and calls.
-use crate::call::Call;
+use crate::call::{Call, Step};
 use crate::worker::Worker;
 use numbers::dice::Dice;
 use oracle::clock::Clock;
@@ -75,12 +75,25 @@ pub fn sequences(dice: &mut Dice) -> u64 {
     }
 }
 
-pub fn drafts(sequences: u64, dice: &mut Dice) -> u64 {
-    match dice.below(8) {
+/// Any drafts, and any part of them committed.
+pub fn step(end: u64, dice: &mut Dice) -> Step {
+    let sequences = sequences(dice);
+    let drafts = match dice.below(8) {
         0 => dice.pick(&[0, MOST_DRAFTS]),
         1 => dice.below(MOST_DRAFTS + 1),
         _ => sequences * dice.below(9),
+    };
+    Step {
+        end,
+        drafts,
+        sequences,
+        committed: dice.below(drafts + 1),
     }
+}
+
+/// How many in a hundred.
+pub fn share(dice: &mut Dice) -> u64 {
+    dice.below(101)
 }
 
 /// How often each sort of call is made: plans of no worker, decisions, collections, withdrawals,
@@ -145,6 +158,7 @@ impl Calls {
             (1, Some(worker)) => Call::Decide {
                 end: self.clock.next(dice),
                 sequences: sequences(dice),
+                share: share(dice),
                 worker,
                 target: target(dice),
             },
@@ -157,7 +171,7 @@ impl Calls {
             (4, _) => Call::JudgeStep {
                 end: self.clock.next(dice),
             },
-            _ => self.plan(dice),
+            _ => Call::Plan(step(self.clock.next(dice), dice)),
         }
     }
 
@@ -170,14 +184,5 @@ impl Calls {
             last.saturating_sub(8)
         };
         Some(dice.between(from, last))
-    }
-
-    fn plan(&mut self, dice: &mut Dice) -> Call {
-        let sequences = sequences(dice);
-        Call::Plan {
-            end: self.clock.next(dice),
-            drafts: drafts(sequences, dice),
-            sequences,
-        }
     }
 }

@@ -1,7 +1,7 @@
 //! The ledger as the rules have it: the list of the changes that stand, and how many of them can be
 //! withdrawn. Everything else is recounted from that list.
 use crate::afresh::Afresh;
-use crate::call::{Call, Outcome};
+use crate::call::{Call, Outcome, Step};
 use crate::worker::Worker;
 use numbers::second::second;
 use oracle::clock::end_in;
@@ -10,16 +10,14 @@ use std::collections::BTreeMap;
 
 const MOST_SECONDS: usize = 4096;
 const MOST_WORKERS: usize = 256;
-const MOST_STEPS: u64 = 1_000_000;
+pub const MOST_STEPS: u64 = 1_000_000;
 const MOST_WITHDRAWALS: u64 = 64;
 
 /// A change as it was asked for.
 #[derive(Clone, Copy, Debug)]
 pub enum Change {
     Plan {
-        end: u64,
-        drafts: u64,
-        sequences: u64,
+        step: Step,
         /// The worker's place and the target, where the plan decides a width.
         decision: Option<(u32, u32)>,
     },
@@ -84,21 +82,17 @@ impl<'a> Ledger<'a> {
                 *self = Ledger::new(self.workers);
                 Outcome::done()
             }
-            Call::Plan {
-                end,
-                drafts,
-                sequences,
-            } => Outcome::refused(self.plan(end, drafts, sequences, None)),
+            Call::Plan(step) => Outcome::refused(self.plan(step, None)),
             Call::Decide {
                 end,
                 sequences,
+                share,
                 worker,
                 target,
             } => {
                 let width = self.decided(held, worker, target).0;
-                let drafts = u64::from(width) * sequences;
-                let decision = Some((worker as u32, target));
-                Outcome::refused(self.plan(end, drafts, sequences, decision))
+                let step = Step::of_width(width, end, sequences, share);
+                Outcome::refused(self.plan(step, Some((worker as u32, target))))
             }
             Call::Collect { worker } => self.collect(held, worker),
             Call::Withdraw => Outcome::refused(self.withdraw()),
@@ -113,28 +107,26 @@ impl<'a> Ledger<'a> {
         match *call {
             Call::ManyPlans {
                 count,
-                second,
-                step,
-                drafts,
-                sequences,
+                apart,
+                first,
             } => {
                 for turn in 0..count {
-                    let end = end_in(second + turn * step);
-                    outcome = outcome.and(self.plan(end, drafts, sequences, None));
+                    let end = end_in(second(first.end) + turn * apart);
+                    outcome = outcome.and(self.plan(Step { end, ..first }, None));
                 }
             }
             Call::ManyWorkers {
                 count,
                 from,
-                second,
+                end,
                 sequences,
+                share,
                 target,
             } => {
+                let step = Step::of_width(target, end, sequences, share);
                 for worker in from..from + count {
                     assert!(!self.decisions.contains_key(&(worker as u32)));
-                    let drafts = u64::from(target) * sequences;
-                    let decision = Some((worker as u32, target));
-                    outcome = outcome.and(self.plan(end_in(second), drafts, sequences, decision));
+                    outcome = outcome.and(self.plan(step, Some((worker as u32, target))));
                 }
             }
             Call::ManyWithdrawals { count } => {
@@ -153,23 +145,18 @@ impl<'a> Ledger<'a> {
     }
 
     /// Refused with the first of 17, 18 and 19; else the plan stands.
-    fn plan(&mut self, end: u64, drafts: u64, sequences: u64, decision: Option<(u32, u32)>) -> u64 {
+    fn plan(&mut self, step: Step, decision: Option<(u32, u32)>) -> u64 {
         let of_worker = decision.map_or(0, |(worker, _)| self.worker_refusal(worker as usize));
         let refusal = match of_worker {
-            0 => self.step_refusal(end),
+            0 => self.step_refusal(step.end),
             number => number,
         };
         if refusal == 0 {
-            *self.plans.entry(second(end)).or_default() += 1;
+            *self.plans.entry(second(step.end)).or_default() += 1;
             if let Some((worker, _)) = decision {
                 *self.decisions.entry(worker).or_default() += 1;
             }
-            self.stand(Change::Plan {
-                end,
-                drafts,
-                sequences,
-                decision,
-            });
+            self.stand(Change::Plan { step, decision });
         }
         refusal
     }
@@ -196,8 +183,8 @@ impl<'a> Ledger<'a> {
         }
         self.available -= 1;
         let newest = self.standing.pop().expect("an available withdrawal");
-        if let Change::Plan { end, decision, .. } = newest {
-            take_one(&mut self.plans, second(end));
+        if let Change::Plan { step, decision } = newest {
+            take_one(&mut self.plans, second(step.end));
             if let Some((worker, _)) = decision {
                 take_one(&mut self.decisions, worker);
             }
@@ -244,16 +231,16 @@ mod tests {
     fn p11_a_second_that_comes_back_is_one_second() {
         let mut ledger = Ledger::new(&[]);
         for end in [5.5f64, 6.0, 5.9] {
-            let end = end.to_bits();
-            let (drafts, sequences) = (4, 2);
-            let call = Call::Plan {
-                end,
-                drafts,
-                sequences,
+            let step = Step {
+                end: end.to_bits(),
+                drafts: 4,
+                sequences: 2,
+                committed: 3,
             };
-            assert_eq!(obey(&mut ledger, call), Outcome::done());
+            assert_eq!(obey(&mut ledger, Call::Plan(step)), Outcome::done());
         }
         assert_eq!(ledger.afresh().sums, [(5, 8, 4, 2), (6, 4, 2, 1)]);
+        assert_eq!(ledger.afresh().committed, [6, 3]);
     }
 
     #[test]
@@ -264,6 +251,7 @@ mod tests {
             let call = Call::Decide {
                 end: end_in(7),
                 sequences: 1,
+                share: 50,
                 worker: 0,
                 target,
             };
@@ -272,6 +260,7 @@ mod tests {
         }
         assert_eq!(obey(&mut ledger, Call::Withdraw), Outcome::done());
         assert_eq!(ledger.afresh().records, [Some((6, 1, 0.0))]);
+        assert_eq!(ledger.afresh().committed, [6]);
     }
 
     #[test]
@@ -279,14 +268,18 @@ mod tests {
         let mut ledger = Ledger::new(&[]);
         let plans = Call::ManyPlans {
             count: 65,
-            second: 3,
-            step: 1,
-            drafts: 4,
-            sequences: 2,
+            apart: 1,
+            first: Step {
+                end: end_in(3),
+                drafts: 4,
+                sequences: 2,
+                committed: 1,
+            },
         };
         assert_eq!(obey(&mut ledger, plans), Outcome::of_value(65));
         let all = obey(&mut ledger, Call::ManyWithdrawals { count: 65 });
         assert_eq!((all.refusal, all.value), (21, 64));
         assert_eq!(ledger.afresh().sums, [(3, 4, 2, 1)]);
+        assert_eq!(ledger.afresh().committed, [1]);
     }
 }

@@ -1,11 +1,11 @@
 //! Random sequences from a seed, without end.
-use crate::call::Call;
-use crate::drawing::{drafts, sequences, target, workers, Calls};
+use crate::call::{Call, Step};
+use crate::drawing::{sequences, share, step, target, workers, Calls};
 use crate::sequence::{Sequence, MOST_SLOTS, ROOM, WHOLE};
 use crate::sequence_case::SequenceCase;
 use numbers::dice::Dice;
 use numbers::kept::Kept;
-use oracle::clock::Clock;
+use oracle::clock::{end_in, Clock};
 
 const MOST_WORKERS: usize = 256;
 const MOST_SECONDS: usize = 4096;
@@ -40,7 +40,7 @@ pub fn with_calls(seed: u64, place: usize, kept: &Kept) -> (SequenceCase, usize)
 /// Most are short; one in some thousands fills a second.
 fn sequence(dice: &mut Dice) -> Sequence {
     match dice.below(100) {
-        0 if dice.once_in(50) => full_second(dice),
+        0 if dice.once_in(50) => full_second(dice.between(999_996, 1_000_003) as u64, dice),
         0 => full_seconds(dice.between(5, 30), dice),
         1 => full_workers(dice.between(5, 60), dice),
         2..=9 => no_room(dice),
@@ -63,13 +63,13 @@ pub fn of_length(kind: u8, length: usize, dice: &mut Dice) -> Sequence {
     Sequence {
         kind,
         lent: dice.pick(&[ROOM, ROOM, ROOM, ROOM + 1, WHOLE]),
-        slots: [dice.between(length, 2 * length); 3],
+        slots: [dice.between(length, 2 * length); 4],
         workers,
         calls,
     }
 }
 
-/// A storage that is too short, or buffers that are for some of the series.
+/// A storage that is too short, or buffers that are for some of the series, one alone or several.
 pub fn no_room(dice: &mut Dice) -> Sequence {
     let sequence = of_length(b'n', dice.between(5, 40), dice);
     if dice.once_in(4) {
@@ -79,6 +79,10 @@ pub fn no_room(dice: &mut Dice) -> Sequence {
     }
     let mut slots = sequence.slots;
     let least = dice.between(0, 12);
+    if dice.once_in(2) {
+        slots[dice.between(0, 3)] = least;
+        return Sequence { slots, ..sequence };
+    }
     for buffer in &mut slots {
         *buffer = dice.pick(&[*buffer, least, least, least + 1]);
     }
@@ -90,28 +94,25 @@ pub fn full_seconds(length: usize, dice: &mut Dice) -> Sequence {
     let workers = workers(dice.between(0, 3), dice);
     let count = dice.between(MOST_SECONDS - 6, MOST_SECONDS + 4) as u64;
     let second = dice.below(1_000_000);
-    let step = dice.pick(&[1, 2, 60, 86_400]);
+    let apart = dice.pick(&[1, 2, 60, 86_400]);
     let mut calls = vec![Call::Fresh];
-    let mut fill = |count, second, step, dice: &mut Dice| {
-        let sequences = sequences(dice);
+    let mut fill = |count, second, apart, dice: &mut Dice| {
         calls.push(Call::ManyPlans {
             count,
-            second,
-            step,
-            drafts: drafts(sequences, dice),
-            sequences,
+            apart,
+            first: step(end_in(second), dice),
         });
     };
     if dice.once_in(2) {
-        fill(count, second, step, dice);
+        fill(count, second, apart, dice);
     } else {
         let odd = count / 2;
-        fill(odd, second + step, 2 * step, dice);
-        fill(count - odd, second, 2 * step, dice);
+        fill(odd, second + apart, 2 * apart, dice);
+        fill(count - odd, second, 2 * apart, dice);
     }
     let clock = Clock::Near {
         second,
-        step,
+        step: apart,
         count,
     };
     let mut draw = Calls::new(clock, workers.len(), dice);
@@ -119,7 +120,7 @@ pub fn full_seconds(length: usize, dice: &mut Dice) -> Sequence {
     Sequence {
         kind: b'f',
         lent: ROOM,
-        slots: [dice.pick(&[MOST_SECONDS - 1, MOST_SECONDS, MOST_SLOTS]); 3],
+        slots: [dice.pick(&[MOST_SECONDS - 1, MOST_SECONDS, MOST_SLOTS]); 4],
         workers,
         calls,
     }
@@ -134,17 +135,16 @@ pub fn full_workers(length: usize, dice: &mut Dice) -> Sequence {
     if has_seconds {
         calls.push(Call::ManyPlans {
             count: MOST_SECONDS as u64,
-            second,
-            step: 1,
-            drafts: 4,
-            sequences: 2,
+            apart: 1,
+            first: step(end_in(second), dice),
         });
     }
     calls.push(Call::ManyWorkers {
         count: dice.between(MOST_WORKERS - 5, workers.len()),
         from: 0,
-        second,
+        end: end_in(second),
         sequences: sequences(dice),
+        share: share(dice),
         target: target(dice),
     });
     let count = if has_seconds { MOST_SECONDS } else { 5 } as u64;
@@ -158,22 +158,26 @@ pub fn full_workers(length: usize, dice: &mut Dice) -> Sequence {
     Sequence {
         kind: b'f',
         lent: ROOM,
-        slots: [MOST_SLOTS; 3],
+        slots: [MOST_SLOTS; 4],
         workers,
         calls,
     }
 }
 
-/// As many steps in a second as there may be, or nearly.
-pub fn full_second(dice: &mut Dice) -> Sequence {
+/// So many steps in a second: nearly as many as there may be, or more.
+pub fn full_second(count: u64, dice: &mut Dice) -> Sequence {
     let workers = workers(2, dice);
     let second = dice.below(100);
+    let drafts = dice.pick(&[3, 65_536]);
     let many = Call::ManyPlans {
-        count: dice.between(999_996, 1_000_003) as u64,
-        second,
-        step: 0,
-        drafts: dice.pick(&[3, 65_536]),
-        sequences: dice.pick(&[1, 1024]),
+        count,
+        apart: 0,
+        first: Step {
+            end: end_in(second),
+            drafts,
+            sequences: dice.pick(&[1, 1024]),
+            committed: dice.pick(&[0, 2, drafts]),
+        },
     };
     let clock = Clock::Near {
         second,
@@ -185,7 +189,7 @@ pub fn full_second(dice: &mut Dice) -> Sequence {
     Sequence {
         kind: b'f',
         lent: ROOM,
-        slots: [MOST_SLOTS; 3],
+        slots: [MOST_SLOTS; 4],
         workers,
         calls,
     }

@@ -1,4 +1,5 @@
 //! The recorded sample: the same cases on every machine.
+use crate::ledger::MOST_STEPS;
 use crate::random::{full_second, full_seconds, full_workers, no_room, of_length};
 use crate::sequence_case::SequenceCase;
 use numbers::dice::Dice;
@@ -31,7 +32,7 @@ pub fn recorded() -> Vec<SequenceCase> {
             sequences.push(of_length(b'l', 300, dice));
         }
     }
-    sequences.push(full_second(dice));
+    sequences.push(full_second(MOST_STEPS + 1, dice));
     sequences.iter().map(|sequence| sequence.case()).collect()
 }
 
@@ -56,5 +57,18 @@ mod tests {
         assert_eq!(Vec::from_iter(met), [0, 16, 17, 18, 19, 21]);
         let kinds: BTreeSet<u8> = cases.iter().take(200).map(|case| case.0.kind).collect();
         assert_eq!(Vec::from_iter(kinds), b"flns");
+    }
+
+    /// The words of the four buffers' slots stand behind that of the storage's.
+    #[test]
+    fn each_buffer_of_the_series_alone_is_short_in_some_case() {
+        let cases = recorded();
+        for buffer in 1..=4 {
+            let is_alone = |case: &&SequenceCase| {
+                let slots = &case.0.input[..5];
+                (1..=4).all(|other| other == buffer || slots[buffer] < slots[other])
+            };
+            assert!(cases.iter().filter(is_alone).count() > 2);
+        }
     }
 }

@@ -1,6 +1,6 @@
 //! A sequence of calls on one storage, and the case that it makes.
 use crate::afresh::Afresh;
-use crate::call::{Call, Outcome};
+use crate::call::{Call, Outcome, Step};
 use crate::digest::{of_held, of_short_storage, Buffers, Sums};
 use crate::ledger::Ledger;
 use crate::sequence_case::SequenceCase;
@@ -27,7 +27,7 @@ pub struct Sequence {
     /// The words of the storage that is lent, the front of those that there are.
     pub lent: usize,
     /// The slots of the series' buffers.
-    pub slots: [usize; 3],
+    pub slots: [usize; 4],
     pub workers: Vec<Worker>,
     pub calls: Vec<Call>,
 }
@@ -72,7 +72,7 @@ impl Sequence {
             matches!(call, Call::Withdraw) && outcome.refusal == 0
         };
         let ends = self.calls.iter().filter_map(|call| match call {
-            Call::Plan { end, .. } | Call::Decide { end, .. } => Some(second(*end)),
+            Call::Plan(Step { end, .. }) | Call::Decide { end, .. } => Some(second(*end)),
             _ => None,
         });
         let ends: Vec<u64> = ends.collect();
@@ -90,8 +90,8 @@ impl Sequence {
     /// The words before the calls: the storage's words, the slots, the workers, how many calls.
     fn heading(&self) -> Vec<u64> {
         assert!(self.lent <= WHOLE && self.slots.iter().all(|&slots| slots <= MOST_SLOTS));
-        let sizes = [self.lent, self.slots[0], self.slots[1], self.slots[2]];
-        let mut words: Vec<u64> = sizes.map(|size| size as u64).to_vec();
+        let sizes = std::iter::once(self.lent).chain(self.slots);
+        let mut words: Vec<u64> = sizes.map(|size| size as u64).collect();
         words.push(self.workers.len() as u64);
         let names = self.workers.iter();
         words.extend(names.flat_map(|worker| [worker.first, worker.second]));
@@ -103,22 +103,19 @@ impl Sequence {
     fn words(&self, call: &Call, held: &Afresh) -> Vec<u64> {
         let (letter, words) = match *call {
             Call::Fresh => (b'f', vec![]),
-            Call::Plan {
-                end,
-                drafts,
-                sequences,
-            } => (b'p', vec![second(end), drafts, sequences]),
+            Call::Plan(step) => (b'p', step_words(step).to_vec()),
             Call::Decide {
                 end,
                 sequences,
+                share,
                 worker,
                 target,
             } => {
                 let after = self.workers[worker].decided(held.records[worker], target);
-                let drafts = u64::from(after.0) * sequences;
-                let mut words = vec![second(end), drafts, sequences, worker as u64];
-                words.extend(record_words(after));
-                (b'd', words)
+                let step = Step::of_width(after.0, end, sequences, share);
+                let record = record_words(after).to_vec();
+                let words = [step_words(step).to_vec(), vec![worker as u64], record];
+                (b'd', words.concat())
             }
             Call::Collect { worker } => (b'c', vec![worker as u64]),
             Call::Withdraw => (b'w', vec![]),
@@ -135,26 +132,33 @@ fn many_words(call: &Call) -> (u8, Vec<u64>) {
     match *call {
         Call::ManyPlans {
             count,
-            second,
-            step,
-            drafts,
-            sequences,
-        } => (b's', vec![count, second, step, drafts, sequences]),
+            apart,
+            first,
+        } => {
+            let words = [vec![count, apart], step_words(first).to_vec()];
+            (b's', words.concat())
+        }
         Call::ManyWorkers {
             count,
             from,
-            second,
+            end,
             sequences,
+            share,
             target,
         } => {
-            let drafts = u64::from(target) * sequences;
-            let places = [count as u64, from as u64];
-            let plan = [second, drafts, sequences, target.into()];
-            (b'm', [places.to_vec(), plan.to_vec()].concat())
+            let step = Step::of_width(target, end, sequences, share);
+            let places = vec![count as u64, from as u64];
+            let words = [places, step_words(step).to_vec(), vec![target.into()]];
+            (b'm', words.concat())
         }
         Call::ManyWithdrawals { count } => (b'x', vec![count]),
         _ => panic!("one call: {call:?}"),
     }
+}
+
+fn step_words(step: Step) -> [u64; 4] {
+    let second = second(step.end);
+    [second, step.drafts, step.sequences, step.committed]
 }
 
 fn record_words((width, rounds, stall): Record) -> [u64; 3] {

@@ -1,10 +1,12 @@
 //! A planner as the rules have it: the unchanged Rust's, the changes that stand, and how many of them
 //! can be withdrawn. A withdrawal builds the Rust's planner anew from those that are left.
+use numbers::second::second;
 use oracle::planners::judge::{judged, Judged};
 use oracle::planners::plan::{Plan, Planned};
-use oracle::planners::unchanged::Unchanged;
+use oracle::planners::unchanged::{committed, Unchanged};
 use oracle::simulation::spec::probe::Record;
 use oracle::simulation::spec::DepthSample;
+use std::collections::BTreeMap;
 use std::rc::Rc;
 
 const MOST_WITHDRAWALS: u64 = 64;
@@ -19,6 +21,8 @@ pub struct Held {
     unchanged: Unchanged,
     standing: Vec<Change>,
     available: u64,
+    /// The committed of each second, recounted whenever the Rust makes a plan that stands.
+    committed: BTreeMap<u64, u64>,
 }
 
 impl Held {
@@ -27,6 +31,7 @@ impl Held {
             unchanged: Unchanged::new(),
             standing: Vec::new(),
             available: 0,
+            committed: BTreeMap::new(),
         }
     }
 
@@ -36,7 +41,7 @@ impl Held {
             Judged::Empty => Planned::Empty,
             Judged::Accepted => {
                 self.stand(Change::Plan(Rc::clone(plan)));
-                self.unchanged.plan(plan)
+                self.make(plan)
             }
         }
     }
@@ -63,11 +68,19 @@ impl Held {
         }
         self.available -= 1;
         self.standing.pop();
+        self.make_anew();
+        0
+    }
+
+    /// All that stands, from an empty planner on.
+    fn make_anew(&mut self) {
         self.unchanged = Unchanged::new();
-        for change in &self.standing {
+        self.committed.clear();
+        let standing = std::mem::take(&mut self.standing);
+        for change in &standing {
             match *change {
                 Change::Plan(ref plan) => {
-                    self.unchanged.plan(plan);
+                    self.make(plan);
                 }
                 Change::Collection { a, b } => {
                     let worker = (a as usize, b as usize);
@@ -75,7 +88,20 @@ impl Held {
                 }
             }
         }
-        0
+        self.standing = standing;
+    }
+
+    /// Makes a plan that is not refused, and counts what its rounds accept at its second.
+    fn make(&mut self, plan: &Plan) -> Planned {
+        let planned = self.unchanged.plan(plan);
+        if let Planned::Plan {
+            drafts, commits, ..
+        } = &planned
+        {
+            let seconds = self.committed.entry(second(plan.end));
+            *seconds.or_default() += committed(drafts, commits);
+        }
+        planned
     }
 
     fn stand(&mut self, change: Change) {
@@ -85,6 +111,15 @@ impl Held {
 
     pub fn series(&self) -> Vec<DepthSample> {
         self.unchanged.planner.depth_series()
+    }
+
+    /// The bits of the mean committed of each second, by sequence.
+    pub fn mean_committed(&self) -> Vec<u64> {
+        let sums = self.unchanged.planner.sums().into_iter();
+        let mean = |(at, _, sequences, _): (u64, u64, u64, u64)| {
+            (self.committed[&at] as f64 / sequences.max(1) as f64).to_bits()
+        };
+        sums.map(mean).collect()
     }
 
     pub fn record(&self, a: u64, b: u64) -> Option<Record> {

@@ -307,6 +307,7 @@ impl Script {
         assert!(slots <= MOST_SERIES);
         self.turn(b'v', &[slots as u64]);
         let series = self.held.series();
+        let committed = self.held.mean_committed();
         let count = if slots < series.len() {
             0
         } else {
@@ -325,6 +326,7 @@ impl Script {
         put(means.collect(), FLOAT_BEFORE);
         let batches = samples.map(|at| at.mean_decode_batch.to_bits());
         put(batches.collect(), FLOAT_BEFORE);
+        put(committed, FLOAT_BEFORE);
     }
 }
 

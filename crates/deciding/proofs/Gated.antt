@@ -1,7 +1,7 @@
 -- A gate gives each sequence one width, none above its chain's length. Assumes nothing.
 use mathlib.Core.Path.{_≡_, refl, _∙_}
-use mathlib.Core.List.{List, [], _∷_}
-use Prim.Native.Nat.{ℕ, zero, suc, _+_, _-_, _*_, _≤_, _<_, zero-le, suc-le-suc}
+use mathlib.Core.List.{List}
+use Prim.Native.Nat.{ℕ, zero, suc, _+_, _-_, _*_, _≤_, _<_}
 use native.Mathlib.Omega.{arith}
 use lib.Dec.{eqb}
 use lib.Ieee.{Float, nan}
@@ -20,7 +20,6 @@ use Rattle.block.specs.Block.{addSlot, blockFrom, blockWidths, blockGate}
 use Rattle.trim.specs.Ragged.{marginOf, fullDraft, dropSlot, passOf, raggedWidths, raggedGate}
 use Rattle.gates_laws.proofs.Widths.{Under, under-lengths, greedy-keeps, block-weighed, block-widths, ragged-weighed, ragged-widths}
 use Rattle.gating.specs.Chains.{gateAt}
-use Rattle.deciding.specs.Deciding.{totalOf}
 
 -- ---- a width for each sequence
 
@@ -88,16 +87,6 @@ module _ (n gamma : ℕ) where
       either {A = Chosen} (isBlock kind) (λ g. g .weighed ≤ n * gamma) (blockGate rule chains lengths curve depth kind rates loaded) (raggedGate rule chains lengths depth kind rates loaded)
       (omega (arith, block-weighed rule chains lengths curve depth kind rates loaded, sum-starts depth lengths, sum-equal gamma n))
       (omega (arith, ragged-weighed rule chains lengths depth kind rates loaded, sum-starts depth lengths, sum-equal gamma n))
-
--- ---- together
-
-pub total-narrow : (gamma : ℕ) (ws : List ℕ) (n : ℕ) → Narrow n gamma ws → totalOf ws ≤ n * gamma
-unfolding totalOf
-total-narrow gamma [] n h = zero-le
-total-narrow gamma (w ∷ ws) zero h = absurd (let z = h .count in omega arith)
-total-narrow gamma (w ∷ ws) (suc n) h =
-    let later : totalOf ws ≤ n * gamma = total-narrow gamma ws n (record { count = let z = h .count in omega arith; each = λ k l. h .each (suc k) (suc-le-suc l) }) in
-    omega (arith, h .each 0 (suc-le-suc zero-le))
 
 pub equal-narrow : (n w : ℕ) → Narrow n w (replicate n w)
 equal-narrow n w = record { count = length-replicate n w; each = λ k l. omega (arith, getD-replicate n k w 0 l) }
