@@ -18,6 +18,7 @@ unsafe extern "C" {
         second: u64,
         drafts: u64,
         sequences: u64,
+        committed: u64,
         puts: u64,
         a: u64,
         b: u64,
@@ -81,17 +82,18 @@ fn recorded() -> Box<dyn Function> {
             0 => dice.bits(),
             _ => dice.below(1000),
         };
-        let (drafts, sequences) = (sum(), sum());
+        let (drafts, sequences, committed) = (sum(), sum(), sum());
         let put = drawn_record(dice);
         let is_put = dice.once_in(2);
-        turn.tell("second, drafts, sequences", (second, drafts, sequences));
+        let step = [second, drafts, sequences, committed];
+        turn.tell("second, drafts, sequences, committed", step);
         turn.tell("worker", (is_put, a, b, put));
         let (width, rounds, stall) = (put.width, put.rounds, put.stall);
         let puts = u64::from(is_put);
         let (at, len) = (lent.at_mut(), lent.len());
         let answered = unsafe {
             ledger_record(
-                at, len, second, drafts, sequences, puts, a, b, width, rounds, stall,
+                at, len, second, drafts, sequences, committed, puts, a, b, width, rounds, stall,
             )
         };
         let refusal = calls::refusal(words, second, is_put.then_some((a, b)));
@@ -102,7 +104,7 @@ fn recorded() -> Box<dyn Function> {
                 Some(_) if record(words, a, b).is_some() => "of a held worker",
                 Some(_) => "of a new worker",
             });
-            calls::plan(words, second, drafts, sequences, put);
+            calls::plan(words, step, put);
         }
         compare(turn, answered, Refusal(refusal));
     })
@@ -120,13 +122,13 @@ fn sums() -> Box<dyn Function> {
             1 => dice.between(rows.saturating_sub(1), rows + 1) as u64,
             _ => dice.between(0, rows) as u64,
         };
-        let part = dice.below(5);
+        let part = dice.below(6);
         turn.tell("row and part", (row, part));
         let answered = unsafe { ledger_sums_sums(lent.at(), lent.len(), row, part) };
         let defined = match judged(words, 0) {
             0 if row < rows as u64 => {
                 turn.shape = Some("held");
-                Told::of(1, words[second_at(row as usize) + part.min(3) as usize])
+                Told::of(1, words[second_at(row as usize) + part.min(4) as usize])
             }
             0 => Told::default(),
             _ => Told::refused(16),

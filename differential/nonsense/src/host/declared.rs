@@ -97,6 +97,7 @@ pub struct Settling {
 }
 
 extern "C" {
+    pub fn latchmeander_version() -> u64;
     pub fn latchmeander_room() -> usize;
     pub fn latchmeander_fresh(storage: *mut u64, storage_len: usize) -> u64;
     pub fn latchmeander_collect(storage: *mut u64, storage_len: usize, a: u64, b: u64) -> Figure;
@@ -113,6 +114,8 @@ extern "C" {
         mean_drafts_len: usize,
         mean_batches: *mut f64,
         mean_batches_len: usize,
+        mean_committed: *mut f64,
+        mean_committed_len: usize,
     ) -> Count;
     pub fn latchmeander_day_figure(storage: *const u64, storage_len: usize) -> Figure;
     pub fn latchmeander_worker(storage: *const u64, storage_len: usize, a: u64, b: u64) -> Worker;

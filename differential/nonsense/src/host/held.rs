@@ -59,7 +59,7 @@ fn withdraw() -> Box<dyn Function> {
 
 /// What a change says that it was.
 fn shape_of(change: [u64; CHANGE]) -> &'static str {
-    match (change[3] == 1, change[4]) {
+    match (change[PLANNED] == 1, change[KIND]) {
         (true, NEW_WORKER) => "a plan of a new worker",
         (true, HELD_WORKER) => "a plan of a worker",
         (true, _) => "a plan",

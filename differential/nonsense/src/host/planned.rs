@@ -9,7 +9,7 @@ use crate::turn::Turn;
 use numbers::second::second;
 use oracle::planners::judge::{is_constrained, judged, Judged};
 use oracle::planners::plan::{Plan, Planned as OfRust};
-use oracle::planners::unchanged::Unchanged;
+use oracle::planners::unchanged::{committed, Unchanged};
 use oracle::planners::world::{Policy, World};
 use oracle::simulation::spec::probe::Record;
 
@@ -64,7 +64,9 @@ fn made(plan: &Plan, words: &mut [u64], slots: &mut [Vec<u32>; 2], turn: &mut Tu
     let put = rust.planner.record_of(worker).filter(|_| is_put);
     let put = put.map(|record| (plan.a, plan.b, record_of(record)));
     let all = drafts.iter().map(|&draft| u64::from(draft)).sum();
-    calls::plan(words, second(plan.end), all, plan.sequences.into(), put);
+    let committed = committed(&drafts, &commits);
+    let step = [second(plan.end), all, plan.sequences.into(), committed];
+    calls::plan(words, step, put);
     turn.shape = Some(shape_of(&plan.world, is_put));
     Planned {
         refusal: 0,

@@ -10,17 +10,17 @@ pub fn functions() -> Vec<Box<dyn Function>> {
     vec![series()]
 }
 
-const NAMES: [&str; 3] = ["seconds", "mean drafts", "mean batches"];
+const NAMES: [&str; 4] = ["seconds", "mean drafts", "mean batches", "mean committed"];
 
-/// The series into three buffers, each long enough, just so, or one short.
+/// The series into four buffers, each long enough, just so, or one short.
 fn series() -> Box<dyn Function> {
-    let mut buffers: [Lent<u64>; 3] = Default::default();
+    let mut buffers: [Lent<u64>; 4] = Default::default();
     over("latchmeander_series", &[16], move |turn, lent, words| {
         let samples = match judged(words, 0) {
             0 => calls::samples(words),
             _ => Vec::new(),
         };
-        let mut contents = [0; 3].map(|_| {
+        let mut contents = [0; 4].map(|_| {
             let len = room_for(samples.len(), &mut turn.dice);
             (0..len).map(|_| turn.dice.bits()).collect::<Vec<u64>>()
         });
@@ -35,6 +35,7 @@ fn series() -> Box<dyn Function> {
             contents[0][row] = sample.second;
             contents[1][row] = sample.mean_draft;
             contents[2][row] = sample.mean_batch;
+            contents[3][row] = sample.mean_committed;
         }
         turn.refusal = refusal;
         let count = held as u64;
@@ -45,7 +46,7 @@ fn series() -> Box<dyn Function> {
     })
 }
 
-fn asked(storage: &Lent<u64>, [seconds, drafts, batches]: &mut [Lent<u64>; 3]) -> Count {
+fn asked(storage: &Lent<u64>, [seconds, drafts, batches, committed]: &mut [Lent<u64>; 4]) -> Count {
     // SAFETY: the buffers are lent whole and apart.
     unsafe {
         latchmeander_series(
@@ -57,6 +58,8 @@ fn asked(storage: &Lent<u64>, [seconds, drafts, batches]: &mut [Lent<u64>; 3]) -
             drafts.len(),
             batches.floats_mut(),
             batches.len(),
+            committed.floats_mut(),
+            committed.len(),
         )
     }
 }

@@ -15,7 +15,14 @@ fn whole(mixture: Mixture, dice: &mut Dice) -> u32 {
     }
 }
 
+/// The version of the library that the header declares.
+const VERSION: u64 = 2;
+
 pub fn functions() -> Vec<Box<dyn Function>> {
+    let version = plain("latchmeander_version", &[], |turn| {
+        // SAFETY: nothing is lent.
+        turn.answer(unsafe { latchmeander_version() }, VERSION)
+    });
     let room = plain("latchmeander_room", &[], |turn| {
         // SAFETY: nothing is lent.
         turn.answer(unsafe { latchmeander_room() }, ROOM)
@@ -29,5 +36,5 @@ pub fn functions() -> Vec<Box<dyn Function>> {
         let defined = if is_planned { draft.min(commits) } else { 0 };
         turn.answer(answer, defined);
     });
-    vec![room, accepted]
+    vec![version, room, accepted]
 }

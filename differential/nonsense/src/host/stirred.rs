@@ -91,17 +91,17 @@ pub fn damage(words: &mut [u64], dice: &mut Dice) {
     match dice.below(12) {
         0 => words[dice.between(0, 3)] = any,
         1 => words[newest] = second,
-        2 => words[newest + 3] = dice.below(3),
-        3 | 4 => words[newest + 4] = dice.below(4),
-        5 => (words[newest + 5], words[newest + 6]) = worker,
+        2 => words[newest + PLANNED] = dice.below(3),
+        3 | 4 => words[newest + KIND] = dice.below(4),
+        5 => (words[newest + WORKER_A], words[newest + WORKER_B]) = worker,
         6 => words[newest + dice.between(0, CHANGE - 1)] = any,
         7 => words[second_at(dice.between(0, SECONDS_MOST - 1))] = second,
         8 => {
             let row = dice.between(0, WORKERS_MOST - 1);
             (words[worker_at(row)], words[worker_at(row) + 1]) = worker;
         }
-        9 => words[second_at(dice.between(0, 9)) + dice.between(0, 3)] = any,
-        10 => words[worker_at(dice.between(0, 9)) + dice.between(0, 4)] = any,
+        9 => words[second_at(dice.between(0, 9)) + dice.between(0, SECOND - 1)] = any,
+        10 => words[worker_at(dice.between(0, 9)) + dice.between(0, WORKER - 1)] = any,
         _ => words[dice.between(0, ROOM - 1)] = any,
     }
 }

@@ -105,7 +105,9 @@ fn plan_into(words: &mut [u64], dice: &mut Dice) {
     let mut second = dice.below(1000);
     for row in 0..rows {
         let steps = dice.pick(&[1, 1, 2, 3, 999_999, 1_000_000]);
-        let sums = [second, dice.below(640), dice.between(1, 9) as u64, steps];
+        let drafts = dice.below(640);
+        let committed = dice.below(drafts + 1);
+        let sums = [second, drafts, dice.between(1, 9) as u64, committed, steps];
         words[second_at(row)..second_at(row + 1)].copy_from_slice(&sums);
         second += dice.between(1, 900) as u64;
     }
@@ -142,7 +144,9 @@ fn one_call(words: &mut [u64], dice: &mut Dice) {
             let put = dice.once_in(2).then(|| (a, b, record(dice)));
             if calls::refusal(words, second, put.map(|_| (a, b))) == 0 {
                 let sequences = dice.between(1, 9) as u64;
-                calls::plan(words, second, dice.below(64 * sequences), sequences, put);
+                let drafts = dice.below(64 * sequences);
+                let step = [second, drafts, sequences, dice.below(drafts + 1)];
+                calls::plan(words, step, put);
             }
         }
     }

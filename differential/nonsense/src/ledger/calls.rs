@@ -1,6 +1,7 @@
 //! What the calls that change the storage leave in its words, once there is room.
-use super::changes::{self, HELD_WORKER, NEW_WORKER, NO_WORKER};
+use super::changes::{self, change_of, HELD_WORKER, NEW_WORKER, NO_WORKER};
 use super::layout::*;
+use super::seconds::Step;
 use super::workers::{self, Record};
 use super::{seconds, series};
 
@@ -25,9 +26,9 @@ pub fn refusal(words: &[u64], second: u64, worker: Option<(u64, u64)>) -> u64 {
 }
 
 /// A plan that is not refused: its step, the record of its worker if it has one, and the change.
-pub fn plan(words: &mut [u64], second: u64, drafts: u64, sequences: u64, put: Option<Put>) {
+pub fn plan(words: &mut [u64], step: Step, put: Option<Put>) {
     let past = put.and_then(|(a, b, _)| workers::record(words, a, b));
-    seconds::add(words, second, drafts, sequences);
+    seconds::add(words, step);
     let worker = match put {
         None => [NO_WORKER, 0, 0, 0, 0, 0],
         Some((a, b, record)) => {
@@ -38,9 +39,7 @@ pub fn plan(words: &mut [u64], second: u64, drafts: u64, sequences: u64, put: Op
             }
         }
     };
-    let mut change = [second, drafts, sequences, 1, 0, 0, 0, 0, 0, 0];
-    change[4..].copy_from_slice(&worker);
-    changes::keep(words, change);
+    changes::keep(words, change_of(Some(step), worker));
 }
 
 /// The bits of a worker's stall, cleared; of one that is not held 0, and no change.
@@ -54,7 +53,8 @@ pub fn collect(words: &mut [u64], a: u64, b: u64) -> u64 {
         rounds,
         stall,
     } = past;
-    changes::keep(words, [0, 0, 0, 0, HELD_WORKER, a, b, width, rounds, stall]);
+    let worker = [HELD_WORKER, a, b, width, rounds, stall];
+    changes::keep(words, change_of(None, worker));
     stall
 }
 
@@ -89,13 +89,8 @@ mod tests {
                 stall: dice.bits(),
             };
             let put = dice.once_in(2).then_some((a, b, record));
-            plan(
-                &mut words,
-                dice.below(9),
-                dice.below(90),
-                dice.below(9),
-                put,
-            );
+            let step = [dice.below(9), dice.below(90), dice.below(9), dice.below(90)];
+            plan(&mut words, step, put);
             if workers::record(&words, a, b).is_some() {
                 before.push(words.clone());
                 collect(&mut words, a, b);
@@ -120,11 +115,11 @@ mod tests {
         assert_eq!(refusal(&words, 7, Some((1, 1))), 17);
         assert_eq!(refusal(&words, 7, Some((0, 0))), 18);
         // the newest is that in slot 62: a plan of second 0, of which the last row is looked at first
-        words[change_at(62) + 3] = 1;
-        words[second_at(SECONDS_MOST - 1) + 1] = 9;
+        words[change_at(62) + PLANNED] = 1;
+        words[second_at(SECONDS_MOST - 1) + DRAFTS] = 9;
         assert_eq!(withdraw(&mut words), 0);
         assert_eq!(words[..4], [4_095, u64::MAX, 63, 62]);
-        assert_eq!(words[second_at(SECONDS_MOST - 1) + 1], 0);
+        assert_eq!(words[second_at(SECONDS_MOST - 1) + DRAFTS], 0);
     }
 
     /// A change that names a worker which 256 others leave no row for: the withdrawal counts as used.
@@ -136,7 +131,7 @@ mod tests {
             words[worker_at(row)] = row as u64;
         }
         let before = words.clone();
-        words[change_at(0) + 4..change_at(0) + 7].copy_from_slice(&[HELD_WORKER, 9, 9]);
+        words[change_at(0) + KIND..=change_at(0) + WORKER_B].copy_from_slice(&[HELD_WORKER, 9, 9]);
         assert_eq!(withdraw(&mut words), 0);
         assert_eq!(words[..4], [0, 256, 4, 0]);
         assert_eq!(words[4..], before[4..]);
@@ -146,11 +141,15 @@ mod tests {
     fn sums_stop_at_their_ends() {
         let mut words = vec![0; ROOM];
         words[SECONDS_WORD] = 1;
-        words[second_at(0)..second_at(1)].copy_from_slice(&[5, u64::MAX - 1, 3, 7]);
-        plan(&mut words, 5, 9, 9, None);
-        assert_eq!(words[second_at(0)..second_at(1)], [5, u64::MAX, 12, 8]);
-        words[second_at(0) + 2] = 4;
+        words[second_at(0)..second_at(1)].copy_from_slice(&[5, u64::MAX - 1, 3, 2, 7]);
+        plan(&mut words, [5, 9, 9, 6], None);
+        assert_eq!(words[second_at(0)..second_at(1)], [5, u64::MAX, 12, 8, 8]);
+        (
+            words[second_at(0) + SEQUENCES],
+            words[second_at(0) + COMMITTED],
+        ) = (4, 5);
         assert_eq!(withdraw(&mut words), 0);
-        assert_eq!(words[second_at(0)..second_at(1)], [5, u64::MAX - 9, 0, 7]);
+        let row = [5, u64::MAX - 9, 0, 0, 7];
+        assert_eq!(words[second_at(0)..second_at(1)], row);
     }
 }

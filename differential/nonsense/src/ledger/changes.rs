@@ -1,5 +1,6 @@
 //! The ring of the newest changes: one kept, and the newest taken back.
 use super::layout::*;
+use super::seconds::Step;
 use super::{seconds, workers};
 use crate::ledger::workers::Record;
 
@@ -10,6 +11,17 @@ pub const HELD_WORKER: u64 = 2;
 
 fn next_slot(words: &[u64]) -> usize {
     held(words, SLOT_WORD, CHANGES_MOST - 1)
+}
+
+/// The words of a change: its step if it is a plan, and what became of its worker.
+pub fn change_of(step: Option<Step>, worker: [u64; CHANGE - KIND]) -> [u64; CHANGE] {
+    let mut change = [0; CHANGE];
+    if let Some(step) = step {
+        change[..PLANNED].copy_from_slice(&step);
+        change[PLANNED] = 1;
+    }
+    change[KIND..].copy_from_slice(&worker);
+    change
 }
 
 /// A change in the next slot, whatever that held.
@@ -39,10 +51,12 @@ pub fn newest(words: &[u64]) -> [u64; CHANGE] {
 pub fn take_back(words: &mut [u64]) {
     let available = held(words, CHANGES_WORD, CHANGES_MOST);
     let slot = newest_slot(words);
-    let [second, drafts, sequences, is_plan, kind, a, b, width, rounds, stall] = newest(words);
+    let newest = newest(words);
+    let [second, drafts, sequences, committed, is_plan, worker @ ..] = newest;
     if is_plan == 1 {
-        seconds::remove(words, second, drafts, sequences);
+        seconds::remove(words, [second, drafts, sequences, committed]);
     }
+    let [kind, a, b, width, rounds, stall] = worker;
     match kind {
         NEW_WORKER => workers::drop(words, a, b),
         HELD_WORKER => {

@@ -7,9 +7,21 @@ pub const CHANGES_MOST: usize = 64;
 pub const STEPS_MOST: u64 = 1_000_000;
 
 /// The words of a row of each table.
-pub const CHANGE: usize = 10;
+pub const CHANGE: usize = 11;
 pub const WORKER: usize = 5;
-pub const SECOND: usize = 4;
+pub const SECOND: usize = 5;
+
+/// The words of a second's row behind the second itself.
+pub const DRAFTS: usize = 1;
+pub const SEQUENCES: usize = 2;
+pub const COMMITTED: usize = 3;
+pub const STEPS: usize = 4;
+
+/// Of a change, behind its step: whether it is a plan, what became of its worker, and the worker's two numbers.
+pub const PLANNED: usize = 4;
+pub const KIND: usize = 5;
+pub const WORKER_A: usize = 6;
+pub const WORKER_B: usize = 7;
 
 /// The words that count the seconds, the workers and the changes, and the one of the next slot.
 pub const SECONDS_WORD: usize = 0;

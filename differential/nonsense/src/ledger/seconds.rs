@@ -19,32 +19,47 @@ pub fn place(words: &[u64], second: u64) -> Place {
 /// The steps of a second that is held.
 pub fn steps(words: &[u64], second: u64) -> Option<u64> {
     let place = place(words, second);
-    place.known.then(|| words[second_at(place.row) + 3])
+    place.known.then(|| words[second_at(place.row) + STEPS])
+}
+
+/// What a plan adds: its second, its drafts, its sequences, its committed.
+pub type Step = [u64; 4];
+
+/// What a step is in the columns of its second's row.
+fn columns([_, drafts, sequences, committed]: Step) -> [(usize, u64); 4] {
+    [
+        (DRAFTS, drafts),
+        (SEQUENCES, sequences),
+        (COMMITTED, committed),
+        (STEPS, 1),
+    ]
 }
 
 /// One step more; a new second has a row where there is one left.
-pub fn add(words: &mut [u64], second: u64, drafts: u64, sequences: u64) {
+pub fn add(words: &mut [u64], step: Step) {
+    let [second, drafts, sequences, committed] = step;
     let Place { row, rows, known } = place(words, second);
     let at = second_at(row);
     if known {
-        for (word, more) in [(1, drafts), (2, sequences), (3, 1)] {
+        for (word, more) in columns(step) {
             words[at + word] = words[at + word].saturating_add(more);
         }
     } else if rows < SECONDS_MOST {
-        put_in(words, at, second_at(rows), &[second, drafts, sequences, 1]);
+        let row = [second, drafts, sequences, committed, 1];
+        put_in(words, at, second_at(rows), &row);
         words[SECONDS_WORD] = rows as u64 + 1;
     }
 }
 
 /// One step less of a second that is held, which goes with its last.
-pub fn remove(words: &mut [u64], second: u64, drafts: u64, sequences: u64) {
-    let Place { row, rows, known } = place(words, second);
+pub fn remove(words: &mut [u64], step: Step) {
+    let Place { row, rows, known } = place(words, step[0]);
     let at = second_at(row);
     if !known {
         return;
     }
-    if words[at + 3] > 1 {
-        for (word, less) in [(1, drafts), (2, sequences), (3, 1)] {
+    if words[at + STEPS] > 1 {
+        for (word, less) in columns(step) {
             words[at + word] = words[at + word].saturating_sub(less);
         }
     } else {
