@@ -10,6 +10,7 @@ use oracle::config::{
 };
 use oracle::request::Request;
 use oracle::simulation::spec::{DraftPlan, PlanCosts, SpecPlanner};
+use std::collections::BTreeMap;
 use std::sync::Arc;
 
 pub const POLICIES: [(&str, GammaPolicy); 4] = [
@@ -206,6 +207,31 @@ impl Day {
     }
 
     pub fn rust(&self, planner: &mut SpecPlanner, plans: &mut Vec<DraftPlan>) -> u64 {
+        self.rust_and(planner, plans, |_, _| ())
+    }
+
+    /// The same, and what the rounds accept added up at each second: the Rust leaves that to its host.
+    pub fn rust_counting(&self, host: &mut Host) -> u64 {
+        let Host {
+            planner,
+            plans,
+            committed,
+        } = host;
+        self.rust_and(planner, plans, |end, plans| {
+            let accepted = |plan: &DraftPlan| {
+                u64::from(SpecPlanner::accepted(plan.draft_len, Some(plan.commits)))
+            };
+            *committed.entry(end as u64).or_default() += plans.iter().map(accepted).sum::<u64>();
+        })
+    }
+
+    /// The Rust's plans, and what is done with the end time and the answer of each.
+    fn rust_and(
+        &self,
+        planner: &mut SpecPlanner,
+        plans: &mut Vec<DraftPlan>,
+        mut then: impl FnMut(f64, &[DraftPlan]),
+    ) -> u64 {
         let request = Request;
         let dec: Vec<&Request> = vec![&request; self.n];
         let roofline = |g: u32| self.lent.roofline[g as usize];
@@ -219,11 +245,36 @@ impl Day {
         for k in 0..self.count {
             let worker = (0, k % WORKERS as usize);
             planner.plan_into(worker, &dec, &costs, self.end(k), plans);
+            then(self.end(k), plans);
             sum = plans
                 .iter()
                 .fold(sum, |sum, plan| told(sum, plan.draft_len, plan.commits));
         }
         sum
+    }
+}
+
+/// A planner of the Rust, the answer of its newest plan, and the committed of each second.
+pub struct Host {
+    pub planner: SpecPlanner,
+    pub plans: Vec<DraftPlan>,
+    pub committed: BTreeMap<u64, u64>,
+}
+
+impl Host {
+    pub fn of(day: &Day) -> Host {
+        Host {
+            planner: day.planner(),
+            plans: Vec::with_capacity(day.n),
+            committed: BTreeMap::new(),
+        }
+    }
+
+    /// The mean committed of each second, by sequence.
+    pub fn mean_committed(&self) -> Vec<f64> {
+        let sums = self.planner.sums().into_iter();
+        let mean = |(second, _, sequences, _)| self.committed[&second] as f64 / sequences as f64;
+        sums.map(mean).collect()
     }
 }
 

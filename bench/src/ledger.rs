@@ -38,7 +38,7 @@ fn record_rust(planner: &mut SpecPlanner, seconds: &[u64]) -> u64 {
     seconds.len() as u64
 }
 
-/// Every second, and every mean to the bit.
+/// Every second, and every mean to the bit. All drafts are committed: that mean is the mean draft's.
 fn assert_equal(storage: &Storage, planner: &SpecPlanner) {
     let mut ours = Series::with_room(SECONDS);
     let rust = planner.depth_series();
@@ -48,6 +48,7 @@ fn assert_equal(storage: &Storage, planner: &SpecPlanner) {
         assert_eq!(ours.drafts[k].to_bits(), sample.mean_draft.to_bits());
         let batch = sample.mean_decode_batch.to_bits();
         assert_eq!(ours.batches[k].to_bits(), batch);
+        assert_eq!(ours.committed[k].to_bits(), sample.mean_draft.to_bits());
     }
 }
 

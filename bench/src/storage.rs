@@ -9,6 +9,7 @@ extern "C" {
         second: u64,
         drafts: u64,
         sequences: u64,
+        committed: u64,
     ) -> u64;
 
     fn bench_series(
@@ -20,11 +21,13 @@ extern "C" {
         drafts_room: usize,
         batches: *mut f64,
         batches_room: usize,
+        committed: *mut f64,
+        committed_room: usize,
     ) -> u64;
 }
 
 /// The words of a planner's storage.
-const ROOM: usize = 18_308;
+const ROOM: usize = 22_468;
 
 /// The most seconds that are held.
 pub const SECONDS: usize = 4_096;
@@ -44,10 +47,11 @@ impl Storage {
         &mut self.0
     }
 
-    /// Counts a plan of no worker; answers the number of the refusal, 0 for none.
+    /// Counts a plan of no worker, all of whose drafts are committed; answers the number of the refusal, 0 for none.
     pub fn record(&mut self, second: u64, drafts: u64, sequences: u64) -> u64 {
         let Storage(words) = self;
-        unsafe { bench_record(words.as_mut_ptr(), words.len(), second, drafts, sequences) }
+        let room = words.len();
+        unsafe { bench_record(words.as_mut_ptr(), room, second, drafts, sequences, drafts) }
     }
 }
 
@@ -56,6 +60,7 @@ pub struct Series {
     pub seconds: Vec<u64>,
     pub drafts: Vec<f64>,
     pub batches: Vec<f64>,
+    pub committed: Vec<f64>,
 }
 
 impl Series {
@@ -64,6 +69,7 @@ impl Series {
             seconds: vec![0; seconds],
             drafts: vec![0.0; seconds],
             batches: vec![0.0; seconds],
+            committed: vec![0.0; seconds],
         }
     }
 
@@ -80,6 +86,8 @@ impl Series {
                 self.drafts.len(),
                 self.batches.as_mut_ptr(),
                 self.batches.len(),
+                self.committed.as_mut_ptr(),
+                self.committed.len(),
             )
         }
     }

@@ -1,9 +1,9 @@
 //! Whole plans against the Rust's `plan_into`: four policies, a constant and a trace, with and without a table of 4,096 rows.
-use crate::days::{Day, Kind, POLICIES};
+use crate::days::{Day, Host, Kind, POLICIES};
 use crate::plan::Plans;
 use crate::report::{grouped, Report};
 use crate::side::{by_side_ready, Times};
-use crate::storage::Storage;
+use crate::storage::{Series, Storage, SECONDS};
 use oracle::simulation::spec::{DraftPlan, SpecPlanner};
 
 const ROWS: u32 = 4_096;
@@ -12,21 +12,46 @@ const ROWS: u32 = 4_096;
 fn measured(name: &str, kind: &Kind) -> Times {
     let day = Day::new(kind);
     let n = kind.n;
-    let buffers = || Plans {
-        drafts: vec![0; n],
-        commits: vec![0; n],
-    };
     by_side_ready(
         name,
         kind.count,
         (
-            || (Storage::fresh(), buffers()),
+            || ours_empty(n),
             |(storage, plans): &mut (Storage, Plans)| day.ours(storage, plans),
         ),
         (
             || (day.planner(), Vec::with_capacity(n)),
             |(planner, plans): &mut (SpecPlanner, Vec<DraftPlan>)| day.rust(planner, plans),
         ),
+    )
+}
+
+fn ours_empty(n: usize) -> (Storage, Plans) {
+    let plans = Plans {
+        drafts: vec![0; n],
+        commits: vec![0; n],
+    };
+    (Storage::fresh(), plans)
+}
+
+/// The same, where the Rust's host adds up what the rounds accept, as our plan does. Behind a day the mean committed of every second is the same.
+fn measured_counting(name: &str, kind: &Kind) -> Times {
+    let day = Day::new(kind);
+    let (mut storage, mut plans) = ours_empty(kind.n);
+    let mut host = Host::of(&day);
+    day.ours(&mut storage, &mut plans);
+    day.rust_counting(&mut host);
+    let mut series = Series::with_room(SECONDS);
+    let seconds = series.read(&storage) as usize;
+    assert_eq!(series.committed[..seconds], host.mean_committed(), "{name}");
+    by_side_ready(
+        name,
+        kind.count,
+        (
+            || ours_empty(kind.n),
+            |(storage, plans): &mut (Storage, Plans)| day.ours(storage, plans),
+        ),
+        (|| Host::of(&day), |host: &mut Host| day.rust_counting(host)),
     )
 }
 
@@ -66,6 +91,26 @@ fn grows(report: &mut Report) {
     }
 }
 
+/// The plan that does least beside it, for ever more sequences.
+fn grows_counting(report: &mut Report) {
+    let name =
+        "plans: fixed, trace, roofline, both sides add up what is committed, by the sequences";
+    if !report.wants(name) {
+        return;
+    }
+    for n in [1, 16, 128, 1_024] {
+        let kind = Kind {
+            policy: 0,
+            trace: true,
+            rows: 0,
+            n,
+            gamma: 8,
+            count: 4_096 / n.max(16),
+        };
+        report.rust.size(name, n, measured_counting(name, &kind));
+    }
+}
+
 pub fn whole(report: &mut Report) {
     for (n, gamma, count) in [(8, 4, 400), (64, 8, 60), (1_024, 64, 3)] {
         for policy in 0..POLICIES.len() {
@@ -87,4 +132,5 @@ pub fn whole(report: &mut Report) {
         }
     }
     grows(report);
+    grows_counting(report);
 }
