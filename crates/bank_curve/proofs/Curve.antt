@@ -7,11 +7,9 @@ use native.Mathlib.Nat.{suc-mul, le-trans, lt-of-le-of-lt, mul-le-mul-left, mul-
 use lib.Dec.{lit<}
 use native.Mathlib.Numerals.{add-one}
 use native.Mathlib.Omega.{arith}
-use lib.IntN.{pos}
-use lib.Ieee.{binary64, round, div, ofInt}
+use lib.Ieee.{binary64, round}
 use lib.ListN.{length, getD, drop}
 use Rattle.laws.proofs.Lists.{next}
-use Rattle.decimals.proofs.Rounding.{whole-held, quotient-rounds}
 use Rattle.bank_curve.specs.Curve.{sumUpTo, curveFrom}
 
 pub sum-next : (g : ℕ) (commits : List ℕ) (i : ℕ) → i < length commits → sumUpTo g (drop i commits) ≡ min (getD commits i 0) g + sumUpTo g (drop (i + 1) commits)
@@ -27,11 +25,6 @@ sum-small g (c ∷ commits) = step (min c g) (sumUpTo g commits) (length commits
 pub sum-held : (g : ℕ) (commits : List ℕ) → length commits ≤ 65536 → g ≤ 64 → sumUpTo g commits < 2 ^ 53
 sum-held g commits h k =
     lt-of-le-of-lt (le-trans (sum-small g commits) (le-trans (mul-le-mul-right g h) (mul-le-mul-left 65536 k))) (lit< tt)
-
--- two whole numbers that a float holds exactly: only the quotient rounds
-pub divided-once : (n p : ℕ) → n < 2 ^ 53 → 0 < p → p < 2 ^ 53 → div binary64 (ofInt binary64 (pos n)) (ofInt binary64 (pos p)) ≡ round binary64 false n p
-unfolding ofInt
-divided-once n p h k l = quotient-rounds binary64 (round binary64 false n 1) (round binary64 false p 1) n p k (whole-held binary64 n h) (whole-held binary64 p l)
 
 pub curve-next : (g depth : ℕ) (commits : List ℕ) → g ≤ depth
     → curveFrom g (suc depth - g) commits ≡ round binary64 false (sumUpTo g commits) (length commits) ∷ curveFrom (g + 1) (suc depth - (g + 1)) commits

@@ -77,6 +77,11 @@ quotient-rounds f (fin false m e) (fin false q d) n p P v w =
     (second-pos q (up d) p (down d) (down e) P (down-pos d) (down-pos e) (w .1)) P
     (cross (m * up e) (down e) n (q * up d) (down d) p (v .1) (w .1)))
 
+-- two whole numbers that a float holds exactly: only the quotient rounds
+pub divided-once : (n p : ℕ) → n < 2 ^ 53 → 0 < p → p < 2 ^ 53 → div binary64 (ofInt binary64 (pos n)) (ofInt binary64 (pos p)) ≡ round binary64 false n p
+unfolding ofInt
+divided-once n p h k l = quotient-rounds binary64 (round binary64 false n 1) (round binary64 false p 1) n p k (whole-held binary64 n h) (whole-held binary64 p l)
+
 -- a float that is not negative and holds the whole number v, as a test
 abbrev pub holds : ℕ → Float → Bool
 holds v nan = false

@@ -8,11 +8,10 @@ use Prim.Native.Nat.{ℕ, _*_, _^_, _≤_, _<_, max}
 use native.Mathlib.Nat.{mul-le-mul-right}
 use native.Mathlib.Omega.{arith}
 use lib.Dec.{T, ltb, eqb}
-use lib.Ieee.{binary64, le, round, ofInt}
+use lib.Ieee.{binary64, le, round}
 use lib.Ieee.Order.{round-mono}
 use lib.ListN.{length, getD}
-use Rattle.float.specs.Floats.{whole}
-use Rattle.decimals.proofs.Rounding.{whole-held, quotient-rounds}
+use Rattle.decimals.proofs.Rounding.{divided-once}
 use Rattle.ledger_rows.proofs.Maps.{none-some}
 use Rattle.ledger_rows.proofs.Tests.{by-test}
 use Rattle.ledger_series.specs.Series.{meanOf}
@@ -25,8 +24,7 @@ use Rattle.ledger_laws.proofs.Theorem.{afresh, reached-nothing}
 
 -- a mean is the quotient rounded once
 rounded-once : (sum count : ℕ) → sum < 2 ^ 53 → count < 2 ^ 53 → meanOf sum count ≡ round binary64 false sum (max count 1)
-unfolding ofInt
-rounded-once sum count h k = quotient-rounds binary64 (whole sum) (whole (max count 1)) sum (max count 1) (omega arith) (whole-held binary64 sum h) (whole-held binary64 (max count 1) (omega arith))
+rounded-once sum count h k = divided-once sum (max count 1) h (omega arith) (omega arith)
 
 -- of the same count, the mean of less is not more
 pub mean-mono : (less more count : ℕ) → more < 2 ^ 53 → count < 2 ^ 53 → less ≤ more → T (le (meanOf less count) (meanOf more count))

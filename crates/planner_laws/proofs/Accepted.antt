@@ -77,10 +77,6 @@ pub record Passed (s : Settings) (a : Ask) (l : Lent) (cs : List Change) : Type 
   pub worker-passes : cond (isPut s a l (s .policy)) (workerRule (workerIn s a l) cs) 0 ≡ 0
   pub step-passes : stepRule (secondOf (a .end)) cs ≡ 0
 
-not-zero : (n : ℕ) → (n ≡ 0 → ⊥) → 1 ≤ n
-not-zero zero h = absurd (h refl)
-not-zero (suc n) h = omega arith
-
 module _ (s : Settings) (a : Ask) (l : Lent) (drafts commits : ℕ) (cs : List Change) where
   unless-plan : (n : ℕ) (answer : Planned) → isPlan (answerUnless s a l drafts commits cs n answer) ≡ true → (n ≡ 0) × (isPlan answer ≡ true)
   unless-plan zero answer e = (refl, e)
@@ -109,7 +105,7 @@ module _ (s : Settings) (a : Ask) (l : Lent) (drafts commits : ℕ) (cs : List C
       let one = unless-plan (settingsRefusal s (l .positions)) _ e in
       let two = unless-empty (eqb (a .sequences) 0) _ (one .1) in
       let none : a .sequences ≡ 0 → ⊥ = eqb-false (a .sequences) 0 (two .0) in
-      not-zero (a .sequences) none
+      omega (arith, none)
 
   -- and all its rounds are drawn
   pub draws-there : isPlan (answerOn s a l drafts commits cs) ≡ true → isPlan (planAnswer (drawn s a l .answer) (decisionOn s a l (recordOf (workerIn s a l) cs) .weighed)) ≡ true

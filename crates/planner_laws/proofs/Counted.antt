@@ -8,8 +8,8 @@ use Prim.Native.Nat.{ℕ, _+_, _≤_}
 use native.Mathlib.Omega.{arith}
 use borrow.Author.Tests.{le-ltb}
 use lib.Dec.{ltb, eqb}
-use lib.ListN.{length, take, drop}
-use lib.Seq.{take-append-seam}
+use lib.ListN.{length, drop}
+use lib.Seq.{take-at}
 use Rattle.numeral.specs.Moment.{secondOf}
 use Rattle.ledger_rows.specs.Map.{isHeld}
 use Rattle.ledger_rows.specs.Layout.{room}
@@ -37,10 +37,6 @@ use Rattle.planner_laws.proofs.Theorem.{Lawful, Holds, plan-passes, rea
 
 -- ---- the loop over one plan
 
--- the front of a buffer is what was written there
-front-is : (new rest : List ℕ) (n : ℕ) → length new ≡ n → take n (new ++ rest) ≡ new
-front-is new rest n e = ap (λ (i : ℕ). take i (new ++ rest)) (sym e) ∙ take-append-seam new rest
-
 module _ (s : Settings) (a : Ask) (l : Lent) (stood : List Change) where
   abbrev own : Option Switching
   own = recordOf (workerIn s a l) stood
@@ -56,8 +52,8 @@ module _ (s : Settings) (a : Ask) (l : Lent) (stood : List Change) where
       let passed : Passed s a l stood = plan-passes s a l (length ds) (length cs) stood p in
       let all : length (drawn s a l .commits) ≡ a .sequences = commits-all (drawn s a l .answer) _ refl (draws-there s a l (length ds) (length cs) stood p) in
       rw (
-        front-is (decisionOn s a l own .drafts) (drop (a .sequences) ds) (a .sequences) (drafts-narrow s a l stood passed .count),
-        front-is (drawn s a l .commits) (drop (a .sequences) cs) (a .sequences) all,
+        take-at (decisionOn s a l own .drafts) (drop (a .sequences) ds) (a .sequences) (drafts-narrow s a l stood passed .count),
+        take-at (drawn s a l .commits) (drop (a .sequences) cs) (a .sequences) all,
       )
 
 -- ---- the book that the standing calls make

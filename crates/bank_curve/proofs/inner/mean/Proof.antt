@@ -3,7 +3,7 @@ use Prim.Native.Nat.{_^_}
 use native.Mathlib.Omega.{arith}
 use lib.Dec.{le→leb}
 use lib.Ieee.{inFloat}
-use Rattle.bank_curve.proofs.Curve.{divided-once}
+use Rattle.decimals.proofs.Rounding.{divided-once}
 use Rattle.bank_curve.proofs.inner.mean.Statement.{statement}
 use Rattle.bank_curve.proofs.inner.mean.Tie as tie
 
