@@ -1,6 +1,6 @@
 /* Latchmeander: plans how many tokens each decode sequence drafts in its next step.
  *
- * Link with liblatchmeander.a (`rt staticlib latchmeander`), x86-64 Linux. docs/HOSTING.md says how, and what each call assumes.
+ * Link with liblatchmeander.a (`tools/native latchmeander FOLDER`), x86-64 Linux. docs/HOSTING.md says how, and what each call assumes.
  *
  * Ownership. Everything is the host's. A call uses what it is lent until it returns and keeps no address; the planner is the words of
  * `storage` and nothing else. No call allocates, opens a file, prints or ends the program.

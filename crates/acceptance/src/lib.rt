@@ -1,12 +1,14 @@
 // How the target accepts a draft: the value of each position, the expected number of accepted drafts, and the number that
 // lent draws accept. Every function takes every model, list and number.
+#![tactic(auto)]
+
 pub mod inner;
 
 ghost use Rattle.std.specs.Prelude.{◌≡◌};
 ghost use Rattle.acceptance.specs.Acceptance.{a_d, all_chances, model_refusal, acceptance_refusal, expected_to, expected_accepted, sample_accepted};
 
 // `PerPosition`'s list stands beside the enum, as `positions`; the rounds of `Trace` are the planner's.
-#[derive(Drop)]
+#[derive(Clone, Copy)]
 pub enum AcceptanceModel {
     Constant(f64),
     PerPosition,
@@ -14,14 +16,14 @@ pub enum AcceptanceModel {
 }
 
 // The expected number of accepted drafts, or the number of the refusal.
-#[derive(Drop)]
+#[derive(Clone, Copy)]
 pub enum Expected {
     Value(f64),
     Refused(u64),
 }
 
 // How many drafts were accepted and how many draws that took, or the number of the refusal.
-#[derive(Drop)]
+#[derive(Clone, Copy)]
 pub enum Sample {
     Accepted { commits: u32, used: usize },
     Refused(u64),

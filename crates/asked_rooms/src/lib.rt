@@ -1,4 +1,6 @@
 // The sizes (11) and the rooms (16) of what a plan is asked with, for `asking`, which judges the values behind them.
+#![tactic(auto)]
+
 pub mod rooms;
 pub mod sizes;
 
@@ -7,7 +9,7 @@ use speculative::drafter::Rates;
 
 // What a plan is asked for beside the settings: whose it is, over how many sequences, when its step ends, the rates, where the
 // prices come from, the rows of the table, and the depth and the rounds of the bank.
-#[derive(Drop)]
+#[derive(Clone, Copy)]
 pub struct Ask {
     pub a: u64,
     pub b: u64,
@@ -21,7 +23,7 @@ pub struct Ask {
 }
 
 // How long each list is that a plan may be refused for.
-#[derive(Drop)]
+#[derive(Clone, Copy)]
 pub struct Lengths {
     pub storage: usize,
     pub drafts: usize,

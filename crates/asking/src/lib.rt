@@ -1,4 +1,6 @@
 // What of a plan's inputs is refused before anything is drawn: sizes (11), rooms (16), values (15).
+#![tactic(auto)]
+
 mod values;
 
 ghost use Rattle.std.specs.Prelude.{◌≡◌};
@@ -27,7 +29,7 @@ pub fn asked_refusal(
     drafts: usize,
     commits: usize,
 ) -> u64
-    ensures { result ≡ asked_refusal settings ask (record { positions = positions.entry.now; roofline = roofline.now; depths = depths.now; batches = batches.now; seconds = seconds.now; loaded = loaded.now; bank_commits_of = bank_commits.now; signals = signals.now; bank_curve_of = bank_curve.now; draws = draws.now; indices = indices.now }) storage.now drafts commits }
+    ensures { result ≡ asked_refusal settings ask (record { positions = positions.now; roofline = roofline.now; depths = depths.now; batches = batches.now; seconds = seconds.now; loaded = loaded.now; bank_commits_of = bank_commits.now; signals = signals.now; bank_curve_of = bank_curve.now; draws = draws.now; indices = indices.now }) storage.now drafts commits }
 {
     let model = settings.model;
     let source = ask.source;

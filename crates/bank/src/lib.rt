@@ -1,4 +1,6 @@
 // The trace bank: rounds with their commits and signals, read from a text, and its expected acceptance.
+#![tactic(auto)]
+
 ghost use Rattle.std.specs.Prelude.{◌≡◌};
 ghost use Rattle.bank.specs.Read.{bank_read};
 ghost use Rattle.bank.specs.Acceptance.{expected_accepted, sizes_refusal};
@@ -18,7 +20,7 @@ pub fn read(text: &[u8], commits: &mut [u32], signals: &mut [f64], curve: &mut [
 }
 
 // What a lookup in the bank's curve answers: the value, or the refusal's number.
-#[derive(Drop)]
+#[derive(Clone, Copy)]
 pub enum Expected {
     Value(f64),
     Refused(u64),

@@ -1,2 +1,4 @@
 // The curve of a trace bank, and values put into a lent buffer.
+#![tactic(auto)]
+
 pub mod inner;

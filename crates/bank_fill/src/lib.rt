@@ -1,2 +1,4 @@
 // The buffers that reading a trace bank fills.
+#![tactic(auto)]
+
 pub mod inner;

@@ -1,9 +1,11 @@
 // Whether a depth is measured, and between which batches, in a table that was judged.
+#![tactic(auto)]
+
 pub mod inner;
 mod range;
 
 // Whether a depth is measured, or the number of the refusal.
-#[derive(Drop)]
+#[derive(Clone, Copy)]
 pub enum Measured {
     Yes,
     No,
@@ -11,7 +13,7 @@ pub enum Measured {
 }
 
 // The batches that a depth is measured between, or the number of the refusal.
-#[derive(Drop)]
+#[derive(Clone, Copy)]
 pub enum BatchRange {
     Between(u32, u32),
     Unmeasured,
@@ -19,7 +21,7 @@ pub enum BatchRange {
 }
 
 // The largest batch that a depth is measured at, or the number of the refusal.
-#[derive(Drop)]
+#[derive(Clone, Copy)]
 pub enum MaxBatch {
     Batch(u32),
     Unmeasured,

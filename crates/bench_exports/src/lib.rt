@@ -1,4 +1,6 @@
 // What bench/ calls across the C boundary: the entry points that it measures, each answer as one plain number, which crosses alike on every machine.
+#![tactic(auto)]
+
 ghost use Rattle.std.specs.Prelude.{◌≡◌};
 ghost use Rattle.decimals.specs.Decimals.{decimal_of};
 ghost use Rattle.bank.specs.Read.{bank_read};

@@ -35,8 +35,8 @@ pub extern "C" fn bench_settles(
     target: u32,
     widths: &mut [u32],
 ) -> u64
-    ensures value { result ≡ rounds_of (settles (way_settings gamma cooldown cost_ms) (way_ask rows) (record { roofline = roofline.entry.now; depths = depths.now; batches = batches.now; seconds = seconds.now }) width target widths.old).0 }
-    ensures widths_after { widths.new ≡ (settles (way_settings gamma cooldown cost_ms) (way_ask rows) (record { roofline = roofline.entry.now; depths = depths.now; batches = batches.now; seconds = seconds.now }) width target widths.old).1 }
+    ensures value { result ≡ rounds_of (settles (way_settings gamma cooldown cost_ms) (way_ask rows) (record { roofline = roofline.now; depths = depths.now; batches = batches.now; seconds = seconds.now }) width target widths.old).0 }
+    ensures widths_after { widths.new ≡ (settles (way_settings gamma cooldown cost_ms) (way_ask rows) (record { roofline = roofline.now; depths = depths.now; batches = batches.now; seconds = seconds.now }) width target widths.old).1 }
 {
     let drafter = drafter_of(0, 0.0, 0.0, 0, 0, 0);
     let settings = settings_of(gamma, 0, 0.0, 3, cooldown, cost_ms, drafter);

@@ -27,7 +27,7 @@ pub fn gated_block_verify(
     requires fits { Fits chains.now lengths.now (length lengths.now) }
     requires depth_in_bounds { (depth < length curve.now) × (length curve.now ≤ 65) }
     requires widths_len { length widths.old ≡ length lengths.now }
-    ensures { record { widths = widths.exit.now; weighed = result } ≡ block_gate (rule_of mode curve.now (length lengths.now)) chains.now lengths.now curve.now depth kind rates loaded.now }
+    ensures { record { widths = widths.new; weighed = result } ≡ block_gate (rule_of mode curve.now (length lengths.now)) chains.now lengths.now curve.now depth kind rates loaded.now }
 {
     clear(widths);
     if depth == 0 {

@@ -119,7 +119,7 @@ fn weigh_all(
     requires widths_value { widths.old ≡ replicate n 0 }
     requires holds { Holds rank.old seq.old first (frontier (stacks up_to (starts depth lengths.now) chains.now)) }
     requires rated { Rated (price_by mode curve.now n) start }
-    ensures { record { widths = widths.exit.now; weighed = result } ≡ block_from (price_by mode curve.now n) chains.now depth (sums_of start) lengths.now }
+    ensures { record { widths = widths.new; weighed = result } ≡ block_from (price_by mode curve.now n) chains.now depth (sums_of start) lengths.now }
 {
     let mut live = first;
     let mut weighed: usize = 0;
@@ -163,7 +163,7 @@ fn verify_within(
     requires priced { Priced mode curve.now spans.now }
     requires lengths_in_bounds { (length lengths.now ≤ length rank.old) × (length lengths.now ≤ length seq.old) }
     requires widths_value { widths.old ≡ replicate (length lengths.now) 0 }
-    ensures { record { widths = widths.exit.now; weighed = result } ≡ block_widths (price_by mode curve.now (length lengths.now)) chains.now depth draft lengths.now }
+    ensures { record { widths = widths.new; weighed = result } ≡ block_widths (price_by mode curve.now (length lengths.now)) chains.now depth draft lengths.now }
 {
     let n = lengths.len() as u32;
     let live = fill(chains, lengths, depth, rank, seq);
@@ -188,7 +188,7 @@ fn verify_few(
     requires fits { Fits chains.now lengths.now (length lengths.now) × (length lengths.now ≤ 64) }
     requires priced { Priced mode curve.now spans.now }
     requires widths_value { widths.old ≡ replicate (length lengths.now) 0 }
-    ensures { record { widths = widths.exit.now; weighed = result } ≡ block_widths (price_by mode curve.now (length lengths.now)) chains.now depth draft lengths.now }
+    ensures { record { widths = widths.new; weighed = result } ≡ block_widths (price_by mode curve.now (length lengths.now)) chains.now depth draft lengths.now }
 {
     let mut rank = [0u64; 64];
     let mut seq = [0u64; 64];
@@ -211,7 +211,7 @@ fn verify_many(
     requires fits { Fits chains.now lengths.now (length lengths.now) }
     requires priced { Priced mode curve.now spans.now }
     requires widths_value { widths.old ≡ replicate (length lengths.now) 0 }
-    ensures { record { widths = widths.exit.now; weighed = result } ≡ block_widths (price_by mode curve.now (length lengths.now)) chains.now depth draft lengths.now }
+    ensures { record { widths = widths.new; weighed = result } ≡ block_widths (price_by mode curve.now (length lengths.now)) chains.now depth draft lengths.now }
 {
     let mut rank = [0u64; 1024];
     let mut seq = [0u64; 1024];
@@ -234,7 +234,7 @@ fn verify_block(
     requires fits { Fits chains.now lengths.now (length lengths.now) }
     requires priced { Priced mode curve.now spans.now }
     requires widths_value { widths.old ≡ replicate (length lengths.now) 0 }
-    ensures { record { widths = widths.exit.now; weighed = result } ≡ block_widths (price_by mode curve.now (length lengths.now)) chains.now depth draft lengths.now }
+    ensures { record { widths = widths.new; weighed = result } ≡ block_widths (price_by mode curve.now (length lengths.now)) chains.now depth draft lengths.now }
 {
     if lengths.len() <= 64 {
         verify_few(chains, lengths, depth, mode, curve, spans, draft, widths)
@@ -255,7 +255,7 @@ fn verify_default(
     requires fits { Fits chains.now lengths.now (length lengths.now) }
     requires in_bounds { (1 < length curve.now) × (length curve.now ≤ 65) }
     requires widths_value { widths.old ≡ replicate (length lengths.now) 0 }
-    ensures { record { widths = widths.exit.now; weighed = result } ≡ block_widths (price_by Default curve.now (length lengths.now)) chains.now depth draft lengths.now }
+    ensures { record { widths = widths.new; weighed = result } ≡ block_widths (price_by Default curve.now (length lengths.now)) chains.now depth draft lengths.now }
 {
     let spans = [0u8; 1];
     verify_block(
@@ -282,7 +282,7 @@ fn verify_bridged(
     requires fits { Fits chains.now lengths.now (length lengths.now) }
     requires in_bounds { (1 < length curve.now) × (length curve.now ≤ 65) }
     requires widths_value { widths.old ≡ replicate (length lengths.now) 0 }
-    ensures { record { widths = widths.exit.now; weighed = result } ≡ block_widths (price_by Bridged curve.now (length lengths.now)) chains.now depth draft lengths.now }
+    ensures { record { widths = widths.new; weighed = result } ≡ block_widths (price_by Bridged curve.now (length lengths.now)) chains.now depth draft lengths.now }
 {
     let mut spans = [0u8; 130];
     fill_spans(curve, &mut spans);
@@ -311,7 +311,7 @@ pub fn verify_by(
     requires fits { Fits chains.now lengths.now (length lengths.now) }
     requires in_bounds { (1 < length curve.now) × (length curve.now ≤ 65) }
     requires widths_value { widths.old ≡ replicate (length lengths.now) 0 }
-    ensures { record { widths = widths.exit.now; weighed = result } ≡ block_widths (price_by mode curve.now (length lengths.now)) chains.now depth draft lengths.now }
+    ensures { record { widths = widths.new; weighed = result } ≡ block_widths (price_by mode curve.now (length lengths.now)) chains.now depth draft lengths.now }
 {
     match mode {
         PriceMode::Default => verify_default(chains, lengths, depth, curve, draft, widths),

@@ -1,5 +1,7 @@
 // Counting and finding bytes a block at a time, for what is long: in a block a u8 holds the count, and the machine then looks at
 // many bytes in one step.
+#![tactic(auto)]
+
 pub mod near;
 
 ghost use Rattle.std.specs.Prelude.{◌≡◌, ◌≤◌, length};

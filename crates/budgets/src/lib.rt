@@ -1,5 +1,7 @@
 // What n sequences are expected to accept at each depth where none has a signal of its own, for callers that have judged what
 // they were lent. The values go to the front of `out`.
+#![tactic(auto)]
+
 ghost use Rattle.std.specs.Prelude.{◌≡◌, ◌≤◌, ◌<◌, min, length};
 ghost use Rattle.budgets.specs.Budget.{model_values, bank_values, over};
 

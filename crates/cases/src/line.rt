@@ -4,6 +4,7 @@ ghost use Rattle.std.specs.Prelude.{◌<◌, ◌≤◌, length};
 
 use crate::words;
 use case_files::refill;
+use std::fs::File;
 
 // Bytes of a line besides its words, its newline included; and of a word.
 const BESIDES: usize = 16;
@@ -12,7 +13,7 @@ const WORD: usize = 17;
 
 // A case whose words were read: how many are lent and how many answered, and where what follows it starts and ends in the room. A kind of 0
 // is no case: the file is at its end where `end` is 0 too.
-#[derive(Drop)]
+#[derive(Clone, Copy)]
 pub struct Case {
     pub kind: u8,
     pub inputs: usize,
@@ -22,11 +23,11 @@ pub struct Case {
 }
 
 // Reads the words of the next case, which starts in the room at a place, or further on in the file.
-pub fn next(fd: i32, room: &mut [u8], words: &mut [u64], at: usize, end: usize) -> Case {
+pub fn next(file: &mut File, room: &mut [u8], words: &mut [u64], at: usize, end: usize) -> Case {
     if is_whole(room, at, end) {
         return case_at(room, words, at, end);
     }
-    let more = refill(fd, room, at, end);
+    let more = refill(file, room, at, end);
     case_at(room, words, 0, more)
 }
 

@@ -1,7 +1,7 @@
 // Two sums over words: of the words, and of the sums up to each word, which tells their places apart.
 use std::num::wrapping_add_u64;
 
-#[derive(Drop)]
+#[derive(Clone, Copy)]
 pub struct Sums {
     pub first: u64,
     pub second: u64,

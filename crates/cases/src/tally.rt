@@ -1,7 +1,6 @@
 // How the cases of a file went, by kind: three counts for each letter, run, refused and differing, one behind the other.
 ghost use Rattle.std.specs.Prelude.{◌≤◌};
 
-use libc::STDOUT_FILENO;
 use std::num::wrapping_add_u64;
 
 // As many counts as there are: 26 letters, three each.
@@ -48,23 +47,23 @@ fn at(counts: &[u64], place: usize) -> u64 {
 }
 
 // A line with the counts of a kind, where one of it was run.
-pub fn print_kind(counts: &[u64], kind: u8, name: &[u8]) {
+pub fn print_kind(rt: HostRuntime, counts: &[u64], kind: u8, name: &[u8]) {
     let first = place_of(kind);
     if at(counts, first) == 0 {
         return;
     }
-    io::write_all(STDOUT_FILENO, name);
-    print_counts(at(counts, first), at(counts, first + 1));
-    print_count(b", differing ", at(counts, first + 2));
-    io::write_all(STDOUT_FILENO, b"\n");
+    let _ = rt.write_all(name);
+    print_counts(rt, at(counts, first), at(counts, first + 1));
+    print_count(rt, b", differing ", at(counts, first + 2));
+    let _ = rt.write_all(b"\n");
 }
 
 // A line with the sums of all kinds run and refused, and one with that of the differing ones.
-pub fn print_sums(counts: &[u64]) {
-    io::write_all(STDOUT_FILENO, b"all");
-    print_counts(sum(counts, 0), sum(counts, 1));
-    print_count(b"\ndiffering ", sum(counts, 2));
-    io::write_all(STDOUT_FILENO, b"\n");
+pub fn print_sums(rt: HostRuntime, counts: &[u64]) {
+    let _ = rt.write_all(b"all");
+    print_counts(rt, sum(counts, 0), sum(counts, 1));
+    print_count(rt, b"\ndiffering ", sum(counts, 2));
+    let _ = rt.write_all(b"\n");
 }
 
 // The sum of every third count from a place on.
@@ -81,12 +80,12 @@ fn sum(counts: &[u64], place: usize) -> u64 {
     sum
 }
 
-fn print_counts(run: u64, refused: u64) {
-    print_count(b" run ", run);
-    print_count(b", refused ", refused);
+fn print_counts(rt: HostRuntime, run: u64, refused: u64) {
+    print_count(rt, b" run ", run);
+    print_count(rt, b", refused ", refused);
 }
 
-fn print_count(label: &[u8], n: u64) {
-    io::write_all(STDOUT_FILENO, label);
-    io::print_decimal(STDOUT_FILENO, n);
+fn print_count(rt: HostRuntime, label: &[u8], n: u64) {
+    let _ = rt.write_all(label);
+    let _ = print!(rt; "{n}");
 }

@@ -1,4 +1,6 @@
 // Whether what is lent is in range: signals, survival chains, expected values and prices.
+#![tactic(auto)]
+
 ghost use Rattle.std.specs.Prelude.{◌≡◌, ◌≤◌, ◌*◌, ◌^◌, length, cond, true, ltb};
 ghost use Rattle.std.specs.Float.Ieee.{lt, le};
 ghost use Rattle.float.specs.Floats.{f0, f1, is_finite};

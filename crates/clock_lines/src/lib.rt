@@ -1,4 +1,6 @@
 // The lines of the workers' clocks: the note on a plan at which one moved, and what a day ends with.
+#![tactic(auto)]
+
 ghost use Rattle.page.specs.Page.{Added};
 ghost use Rattle.clock_lines.specs.Lines.{note_head, moved, counted_again, clock_told, note_line, clocks_line};
 

@@ -9,7 +9,7 @@ use clock_marks::{ring, walks};
 
 // The worker's plan before, 0 where it has none; by how much its clock went back or forward; how it stands; whether the step is counted again, as 1
 // or 0; and how many earlier steps there are where it is the first such step.
-#[derive(Drop)]
+#[derive(Clone, Copy)]
 pub struct Shown {
     pub last: u64,
     pub back: u64,
@@ -23,7 +23,7 @@ pub struct Shown {
 }
 
 // Of the plans that stand: how many workers made them, how often their clocks went back and forward, and how many steps are counted again.
-#[derive(Drop)]
+#[derive(Clone, Copy)]
 pub struct Totals {
     pub workers: u64,
     pub back: u64,

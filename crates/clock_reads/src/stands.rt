@@ -10,7 +10,7 @@ const HOUR: u64 = 3600;
 
 // The highest second that a worker's clock showed since it last went back; the number of the worker's last plan before that, and the highest second
 // until then, both 0 where it never did; and how many of the worker's steps since then are counted again.
-#[derive(Drop)]
+#[derive(Clone, Copy)]
 pub struct Stand {
     pub high: u64,
     pub until: u64,

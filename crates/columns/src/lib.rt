@@ -1,4 +1,6 @@
 // Numbers, means and shares in the columns of a page: blanks in front, up to a width.
+#![tactic(auto)]
+
 ghost use Rattle.std.specs.Prelude.{◌≡◌, ◌-◌};
 ghost use Rattle.page.specs.Page.{Added};
 ghost use Rattle.page.specs.Numbers.{decimal};

@@ -1,5 +1,7 @@
 // The measured cost table: what a step took, by draft depth and batch. It is lent as three columns, depths, batches and seconds,
 // and how many rows they hold. Every function takes every column and number.
+#![tactic(auto)]
+
 pub mod answer;
 mod lent;
 

@@ -1,2 +1,4 @@
 // The rows of a cost table, put in order.
+#![tactic(auto)]
+
 pub mod inner;

@@ -7,37 +7,39 @@ use day_turns::files;
 pub const SMALL: i64 = 262144;
 
 // Whether the day file that an argument names, or a file that it names, is too long for the small rooms.
-pub fn is_large(which: usize) -> bool {
-    let mut path = io::buffer();
-    let n = os::arg(which, &mut path);
-    is_large_day(&path[..n])
+pub fn is_large(rt: HostRuntime, which: usize) -> bool {
+    let mut path = [0u8; 4096];
+    match case_files::argument(rt, which, &mut path) {
+        Some(n) => is_large_day(rt, &path[..n]),
+        None => false,
+    }
 }
 
 // One that cannot be opened is told of where it is run.
-fn is_large_day(path: &[u8]) -> bool {
-    if files::is_longer(path, SMALL) {
+fn is_large_day(rt: HostRuntime, path: &[u8]) -> bool {
+    if files::is_longer(rt, path, SMALL) {
         return true;
     }
-    if !files::is_longer(path, -1) {
+    if !files::is_longer(rt, path, -1) {
         return false;
     }
     let mut room = [0u8; 262144];
-    reads_large(path, &mut room)
+    reads_large(rt, path, &mut room)
 }
 
-fn reads_large(path: &[u8], room: &mut [u8]) -> bool {
-    let read = files::read(path, room);
+fn reads_large(rt: HostRuntime, path: &[u8], room: &mut [u8]) -> bool {
+    let read = files::read(rt, path, room);
     let bytes = read.bytes;
-    names_large(path, &room[0..bytes])
+    names_large(rt, path, &room[0..bytes])
 }
 
-fn names_large(path: &[u8], day: &[u8]) -> bool {
+fn names_large(rt: HostRuntime, path: &[u8], day: &[u8]) -> bool {
     let mut rest = day;
     while 0 < rest.len() {
         let line = fronts::front(rest);
         let stop = line.stop;
         let next = line.next;
-        if line_names_large(path, &rest[0..stop]) {
+        if line_names_large(rt, path, &rest[0..stop]) {
             return true;
         }
         rest = &rest[next..];
@@ -45,17 +47,17 @@ fn names_large(path: &[u8], day: &[u8]) -> bool {
     false
 }
 
-fn line_names_large(path: &[u8], line: &[u8]) -> bool {
+fn line_names_large(rt: HostRuntime, path: &[u8], line: &[u8]) -> bool {
     match day_names::command_of(line) {
-        Command::Table => files::is_longer_beside(path, day_line::field(line, 1), SMALL),
-        Command::Acceptance => acceptance_names_large(path, line),
+        Command::Table => files::is_longer_beside(rt, path, day_line::field(line, 1), SMALL),
+        Command::Acceptance => acceptance_names_large(rt, path, line),
         _ => false,
     }
 }
 
-fn acceptance_names_large(path: &[u8], line: &[u8]) -> bool {
+fn acceptance_names_large(rt: HostRuntime, path: &[u8], line: &[u8]) -> bool {
     match day_names::acceptance_of(day_line::field(line, 1)) {
-        AcceptanceName::Trace => files::is_longer_beside(path, day_line::field(line, 2), SMALL),
+        AcceptanceName::Trace => files::is_longer_beside(rt, path, day_line::field(line, 2), SMALL),
         AcceptanceName::Constant => false,
         AcceptanceName::PerPosition => false,
         AcceptanceName::Unknown => false,

@@ -3,9 +3,11 @@ use crate::fronts;
 use day_commands::commands;
 use day_turns::turns::Turn;
 use day_turns::{files, turns};
+use std::env::{Env, FillError};
 
 // Runs the day file that an argument names, in these rooms, and answers how it went.
 pub fn argument(
+    rt: HostRuntime,
     which: usize,
     named: bool,
     day: &mut [u8],
@@ -13,18 +15,24 @@ pub fn argument(
     floats: &mut [f64],
     wholes: &mut [u32],
 ) -> u64 {
-    let mut path = io::buffer();
-    let n = os::arg(which, &mut path);
-    if os::errno() != 0 {
-        os::fail(b"day file");
-        return 2;
+    let mut path = [0u8; 4096];
+    match rt.arg(which, &mut path) {
+        Ok(n) => fresh(rt, &path[..n], named, day, file, floats, wholes),
+        Err(FillError::TooLong) => unnamed(rt, "File name too long"),
+        Err(FillError::NotPresent) => unnamed(rt, "Invalid argument"),
     }
-    fresh(&path[..n], named, day, file, floats, wholes)
+}
+
+// An argument that is no path. Standard error has why.
+fn unnamed(rt: HostRuntime, why: &str) -> u64 {
+    case_files::tell(rt, b"day file", why);
+    2
 }
 
 // Nothing is held, and every setting is 0: gamma 0, Fixed, constant acceptance 0, no drafter, no limits on switching, no rates, no prices,
 // and the default price mode.
 fn fresh(
+    rt: HostRuntime,
     path: &[u8],
     named: bool,
     day: &mut [u8],
@@ -38,6 +46,7 @@ fn fresh(
     let mut page = [0u8; 65536];
     ledger::fresh(&mut storage);
     day_file(
+        rt,
         path,
         named,
         day,
@@ -52,6 +61,7 @@ fn fresh(
 }
 
 fn day_file(
+    rt: HostRuntime,
     path: &[u8],
     named: bool,
     day: &mut [u8],
@@ -63,8 +73,8 @@ fn day_file(
     clock: &mut [u64],
     page: &mut [u8],
 ) -> u64 {
-    let start = start(path, named, page);
-    let read = files::read(path, day);
+    let start = start(rt, path, named, page);
+    let read = files::read(rt, path, day);
     let bytes = read.bytes;
     if read.readable {
         let turn = lines(
@@ -86,11 +96,11 @@ fn day_file(
 }
 
 // The day file's name goes first where there are several.
-fn start(path: &[u8], named: bool, page: &mut [u8]) -> Turn {
+fn start(rt: HostRuntime, path: &[u8], named: bool, page: &mut [u8]) -> Turn {
     if named {
-        turns::named(turns::first(), path, page)
+        turns::named(turns::first(rt), path, page)
     } else {
-        turns::first()
+        turns::first(rt)
     }
 }
 
@@ -132,7 +142,7 @@ fn lines(
 
 // Writes out what is left on the page: where that fails the day did not go well.
 fn finish(turn: Turn, page: &[u8]) -> u64 {
-    if page::write_out(page, turn.used) {
+    if page::write_out(turn.rt, page, turn.used) {
         turn.status
     } else {
         2

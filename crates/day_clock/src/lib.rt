@@ -2,6 +2,8 @@
 // It is lent as words: how many earlier marks are kept, the newest mark, and the earlier marks, the newest first, one for each change that can
 // be withdrawn. A mark is a second and one, or 0 where no plan stands. What a call answers and leaves is said for any content: a clock of too few
 // words stays as it is.
+#![tactic(auto)]
+
 ghost use Rattle.std.specs.Prelude.{◌≡◌, ◌-◌, ◌≤◌, length};
 ghost use Rattle.day_clock.specs.Clock.{words, mark_of, kept_by, back_by, pushed, passed_of, changed_of, taken_back_of};
 

@@ -35,7 +35,7 @@ fn note_change(held: bool, clock: &mut [u64]) {
 }
 
 fn collected(turn: Turn, seconds: f64, page: &mut [u8]) -> Turn {
-    let at = page::make_room(page, turn.used);
+    let at = page::make_room(turn.rt, page, turn.used);
     let used = series_lines::collect(page, at, turn.number, seconds);
     turns::done(turn, used)
 }
@@ -51,7 +51,7 @@ pub fn withdraw(turn: Turn, storage: &mut [u64], clock: &mut [u64], page: &mut [
 }
 
 fn withdrawn(turn: Turn, page: &mut [u8]) -> Turn {
-    let at = page::make_room(page, turn.used);
+    let at = page::make_room(turn.rt, page, turn.used);
     let used = shown::withdrawn(page, at, turn.number);
     turns::done(turn, used)
 }

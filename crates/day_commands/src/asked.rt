@@ -92,13 +92,13 @@ fn noted(turn: Turn, asker: Asker, clock: &mut [u64], page: &mut [u8]) -> Turn {
     if by == 0 {
         return turn;
     }
-    let at = page::make_room(page, turn.used);
+    let at = page::make_room(turn.rt, page, turn.used);
     let used = shown::clock_back(page, at, turn.number, by, second);
     turns::done(turn, used)
 }
 
 fn headed(turn: Turn, asker: Asker, draws: u64, slots: u64, page: &mut [u8]) -> Turn {
-    let at = page::make_room(page, turn.used);
+    let at = page::make_room(turn.rt, page, turn.used);
     let second = numeral::second(asker.end);
     let used = shown::plan_head(
         page,
@@ -130,7 +130,7 @@ fn ended(turn: Turn, sequences: usize, drafts: &[u32], commits: &[u32], page: &m
 }
 
 fn empty(turn: Turn, page: &mut [u8]) -> Turn {
-    let at = page::make_room(page, turn.used);
+    let at = page::make_room(turn.rt, page, turn.used);
     let used = shown::plan_empty(page, at, turn.number);
     turns::done(turn, used)
 }

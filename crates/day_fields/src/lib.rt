@@ -1,4 +1,6 @@
 // What a line of a day file asks for, judged and read: the shape of every command, and the values of fields.
+#![tactic(auto)]
+
 ghost use Rattle.std.specs.Prelude.{◌≡◌};
 ghost use Rattle.numeral.specs.Spelling.{whole_of};
 ghost use Rattle.decimals.specs.Decimals.{decimal_of};

@@ -1,4 +1,6 @@
 // A line of a day file: what stands before its comment, and the fields of that.
+#![tactic(auto)]
+
 ghost use Rattle.std.specs.Prelude.{◌≡◌, length};
 ghost use Rattle.text.specs.Fields.{fields};
 ghost use Rattle.day_line.specs.DayLine.{uncommented, field_of};

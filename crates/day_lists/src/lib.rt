@@ -1,4 +1,6 @@
 // Lists of numbers in a day file's line: all its fields from a place on. The list is judged first, and read only where all of it is right and fits.
+#![tactic(auto)]
+
 ghost use Rattle.std.specs.Prelude.{◌≡◌, ◌-◌, ◌≤◌};
 ghost use Rattle.day_lists.specs.Lists.{listed_as, decimals_listed, wholes_listed};
 
@@ -6,7 +8,7 @@ use day_walks::{Wrong, inner};
 
 // How many numbers were read; that there is no room for them; or the first field that is no such number, counted from the line's first as 0,
 // and what is expected there: 5 a whole number, 6 a decimal, 7 a decimal of fewer digits.
-#[derive(Drop)]
+#[derive(Clone, Copy)]
 pub enum Listed {
     Count(u64),
     TooMany,

@@ -1,9 +1,11 @@
 // The names of a day file: which command a line asks for, and the names that its fields may have.
+#![tactic(auto)]
+
 ghost use Rattle.std.specs.Prelude.{◌≡◌};
 ghost use Rattle.day_names.specs.Names.{setting_named, act_named, is_bit_series, command_of, policy_of, acceptance_of, drafter_of, prices_of, is_none};
 
 // What a line asks for.
-#[derive(Drop)]
+#[derive(Clone, Copy)]
 pub enum Command {
     Nothing,
     Gamma,
@@ -26,7 +28,7 @@ pub enum Command {
     Unknown,
 }
 
-#[derive(Drop)]
+#[derive(Clone, Copy)]
 pub enum PolicyName {
     Fixed,
     GoodputBudget,
@@ -35,7 +37,7 @@ pub enum PolicyName {
     Unknown,
 }
 
-#[derive(Drop)]
+#[derive(Clone, Copy)]
 pub enum AcceptanceName {
     Constant,
     PerPosition,
@@ -43,7 +45,7 @@ pub enum AcceptanceName {
     Unknown,
 }
 
-#[derive(Drop)]
+#[derive(Clone, Copy)]
 pub enum DrafterName {
     Fraction,
     Autoregressive,
@@ -52,7 +54,7 @@ pub enum DrafterName {
     Unknown,
 }
 
-#[derive(Drop)]
+#[derive(Clone, Copy)]
 pub enum PricesName {
     Default,
     Bridged,

@@ -1,15 +1,14 @@
 -- Where a path's folder ends, and each way out, over plain variables. Assumes nothing.
 use mathlib.Core.Path.{◌≡◌, refl, sym, ap, ◌∙◌}
 use mathlib.Core.Bool.{Bool, true, false, cond}
-use mathlib.Core.List.{List, [], ◌∷◌, ◌++◌, append_assoc, append-nil}
+use mathlib.Core.List.{List, [], ◌∷◌, ◌++◌, append_assoc}
 use Prim.Native.Nat.{ℕ, zero, suc, ◌+◌, ◌-◌, ◌≤◌, ◌<◌}
-use native.Mathlib.Nat.{not-suc-le-zero, le_of_suc-le-suc, le_of_eq}
+use native.Mathlib.Nat.{not-suc-le-zero, le_of_suc-le-suc}
 use native.Mathlib.Omega.{arith}
 use borrow.Author.Tests.{lt-ltb, le-ltb, eq-eqb, ne_eqb}
 use lib.Dec.{ltb, eqb}
-use lib.ListN.{length, get_or, take, drop, length-append, length-drop, drop_of_length-le}
-use lib.Seq.{length-take-le, drop-cons, take-length, drop-drop, drop-append_seam, take-append_seam}
-use Rattle.laws.proofs.Lists.{part}
+use lib.ListN.{length, get_or, take, drop, length-append}
+use lib.Seq.{length-take-le, drop-cons}
 use Rattle.text.specs.Lines.{starts_with}
 use Rattle.day_paths.specs.Paths.{folder_length, kept_of, path_of, placed_beside}
 
@@ -114,26 +113,3 @@ module _ (day name out : List ℕ) (n : ℕ) (e : n ≡ kept_of day name) where
       ∙ ap (λ (m : ℕ). (take n day ++ name) ++ drop m out) (sym f ∙ whole)
       ∙ ap (λ (p : List ℕ). p ++ drop (length (path_of day name)) out) same in
       rw (le-ltb (length out) (length (path_of day name)) fits, whole, put)
-
--- ---- two texts copied one behind the other: `once` is the buffer with the first, `last` its part behind that with the second
-
-module _ (first second out : List ℕ) where
-  abbrev mid : List ℕ
-  mid = first ++ drop (length first) out
-
-  pub both_put : (once last : List ℕ) → once ≡ take (length first) first ++ drop (length first) out
-      → last ≡ take (length second) second ++ drop (length second) (take (length once - length first) (drop (length first) once))
-      → take (length first) once ++ (last ++ drop (length once - length first) (drop (length first) once)) ≡ first ++ (second ++ drop (length first + length second) out)
-  both_put once last e f =
-      let is : once ≡ mid = e ∙ ap (λ (t : List ℕ). t ++ drop (length first) out) (take-length first) in
-      let behind : drop (length first) once ≡ drop (length first) out = ap (drop (length first)) is ∙ drop-append_seam first (drop (length first) out) in
-      let gone : drop (length once - length first) (drop (length first) once) ≡ [] =
-      drop_of_length-le (drop (length first) once) (le_of_eq (length-drop (length first) once)) in
-      let put : last ≡ second ++ drop (length first + length second) out =
-      f
-      ∙ ap (λ (t : List ℕ). t ++ drop (length second) (take (length once - length first) (drop (length first) once))) (take-length second)
-      ∙ ap (λ (t : List ℕ). second ++ drop (length second) t) (part (length first) once ∙ behind)
-      ∙ ap (λ (t : List ℕ). second ++ t) (drop-drop (length second) (length first) out) in
-      ap (λ (t : List ℕ). t ++ (last ++ drop (length once - length first) (drop (length first) once))) (ap (take (length first)) is ∙ take-append_seam first (drop (length first) out))
-      ∙ ap (λ (t : List ℕ). first ++ (last ++ t)) gone
-      ∙ ap (λ (t : List ℕ). first ++ t) (append-nil last ∙ put)

@@ -1,4 +1,6 @@
 // The path of a file that a day file names: beside the day file, where the name is no path from the root.
+#![tactic(auto)]
+
 ghost use Rattle.std.specs.Prelude.{◌≡◌, ◌++◌, ◌+◌, ◌≤◌, length, drop};
 ghost use Rattle.day_paths.specs.Paths.{folder_length, kept_of, placed_beside};
 
@@ -24,9 +26,10 @@ fn put_both(first: &[u8], second: &[u8], out: &mut [u8]) -> usize
     ensures put { out.new ≡ first.now ++ (second.now ++ drop (length first.now + length second.now) out.old) }
 {
     let behind = first.len();
-    bytes::copy(first, out);
-    bytes::copy(second, &mut out[behind..]);
-    behind + second.len()
+    let end = behind + second.len();
+    out[..behind].copy_from_slice(first);
+    out[behind..end].copy_from_slice(second);
+    end
 }
 
 // How many bytes of the day file's path stand before the name: none where the name is a path from the root.

@@ -1,5 +1,7 @@
 // How long until a width settles, asked by a line of a day file: the answer by the settings in force, and the table of the steps. Nothing is
 // changed.
+#![tactic(auto)]
+
 use day_turns::turns::Turn;
 use day_turns::{turns, values};
 use plan_lent::{registers, settles};
@@ -9,7 +11,7 @@ use settling::Settling;
 const MOST: u32 = 64;
 
 // The table as far as it is told, and the fewest walks in it.
-#[derive(Drop)]
+#[derive(Clone, Copy)]
 struct Rows {
     turn: Turn,
     fewest: u32,
@@ -45,7 +47,7 @@ fn tell(turn: Turn, answer: Settling, widths: &[u32], page: &mut [u8]) -> Turn {
     match answer {
         Settling::Refused(number) => turns::refused(turn, number, 0, page),
         _ => {
-            let at = page::make_room(page, turn.used);
+            let at = page::make_room(turn.rt, page, turn.used);
             let used = settling_lines::answer(page, at, turn.number, answer, widths);
             turns::done(turn, used)
         }
@@ -127,7 +129,7 @@ fn with_step(
 }
 
 fn row(turn: Turn, step: u32, rounds: u64, walks: u32, widths: &[u32], page: &mut [u8]) -> Turn {
-    let at = page::make_room(page, turn.used);
+    let at = page::make_room(turn.rt, page, turn.used);
     let used = settling_lines::step(page, at, turn.number, step, rounds, walks, widths);
     turns::done(turn, used)
 }

@@ -1,6 +1,8 @@
 // What the fields of a line have to be, and the first that is not. A shape has a letter for each field:
 // `t` any text, `w` a whole number, `d` a decimal, `n` a whole number or `none`, `p` the name of a policy,
 // `m` the name of a price mode, `*` whatever fields follow.
+#![tactic(auto)]
+
 ghost use Rattle.std.specs.Prelude.{◌≡◌, ◌≤◌, length, get_or, take};
 ghost use Rattle.text.specs.Fields.{fields};
 ghost use Rattle.trimming.specs.Trim.{trimmed};
@@ -13,7 +15,7 @@ use day_names::{PolicyName, PricesName};
 
 // Every field is what it has to be; or the first that is not, counted from 0, and what was expected there:
 // 1 more fields, 2 no more fields, 3 one of the names, 5 a whole number, 6 a decimal, 7 a decimal of fewer digits.
-#[derive(Drop)]
+#[derive(Clone, Copy)]
 pub enum Judged {
     Right,
     Wrong { field: u64, expected: u64 },

@@ -1,6 +1,8 @@
 // What the clock lines of a day add to the times of its plans: so many seconds for all workers, and for some workers their own. Lent as words: the
 // seconds for all, by their bits; how many workers have their own; and of each its two numbers and its seconds, by their bits, in the order in which
 // they were first set. What a call answers and leaves is said for any content.
+#![tactic(auto)]
+
 ghost use Rattle.std.specs.Prelude.{◌≡◌, ◌+◌, ◌≤◌, ◌<◌, length};
 ghost use Rattle.float.specs.Floats.{plus};
 ghost use Rattle.day_shifts.specs.Shifts.{words, most, row_at, is_of, row_from, held, shift_bits, shift_of, for_all, added, for_one};

@@ -1,25 +1,25 @@
 // A file read whole, and how long a file is.
-ghost use Rattle.std.specs.Prelude.{◌+◌, ◌≤◌, length};
+ghost use Rattle.std.specs.Prelude.{◌≤◌, length};
+
+use std::fs::File;
+use std::io::{Read, Seek, SeekFrom};
 
 // Whether a file was read, and then how many bytes it has, which stand at the front of the room.
-#[derive(Drop)]
+#[derive(Clone, Copy)]
 pub struct Contents {
     pub readable: bool,
     pub bytes: usize,
 }
 
 // Reads a file whole. Where that cannot be, standard error has why.
-pub fn read(path: &[u8], room: &mut [u8]) -> Contents
+pub fn read(rt: HostRuntime, path: &[u8], room: &mut [u8]) -> Contents
     ensures { result.bytes ≤ length room.new }
 {
-    let fd = os::open_read(path);
-    if fd < 0 {
-        os::fail(path);
+    let Some(mut file) = case_files::open(rt, path) else {
         return unread();
-    }
-    let bytes = fill(fd, room);
-    let readable = is_at_end(fd, path);
-    libc::close(fd);
+    };
+    let bytes = case_files::fill(&mut file, room);
+    let readable = is_at_end(rt, &mut file, path);
     Contents { readable, bytes }
 }
 
@@ -33,12 +33,12 @@ fn unread() -> Contents
 }
 
 // Reads a file that a day file names, by a path from the day file's folder.
-pub fn read_beside(day: &[u8], name: &[u8], room: &mut [u8]) -> Contents
+pub fn read_beside(rt: HostRuntime, day: &[u8], name: &[u8], room: &mut [u8]) -> Contents
     ensures { result.bytes ≤ length room.new }
 {
-    let mut path = io::buffer();
+    let mut path = [0u8; 4096];
     let n = beside(day, name, &mut path);
-    read(&path[0..n], room)
+    read(rt, &path[0..n], room)
 }
 
 // The path of such a file, and how long it is; 0 where there is none.
@@ -53,62 +53,38 @@ fn beside(day: &[u8], name: &[u8], path: &mut [u8]) -> usize
 }
 
 // Whether a file is longer than so many bytes. One that has no length, as a pipe, may be.
-pub fn is_longer(path: &[u8], bytes: i64) -> bool {
-    let fd = os::open_read(path);
-    if fd < 0 {
-        return false;
+pub fn is_longer(rt: HostRuntime, path: &[u8], bytes: i64) -> bool {
+    match case_files::opened(rt, path) {
+        Ok(mut file) => is_open_longer(&mut file, bytes),
+        Err(_) => false,
     }
-    let size = libc::lseek(fd, 0, libc::SEEK_END);
-    libc::close(fd);
-    if size < 0 {
-        return true;
-    }
-    bytes < size
 }
 
-pub fn is_longer_beside(day: &[u8], name: &[u8], bytes: i64) -> bool {
-    let mut path = io::buffer();
+fn is_open_longer(file: &mut File, bytes: i64) -> bool {
+    match file.seek(SeekFrom::End(0)) {
+        Ok(size) => bytes < size.cast_signed(),
+        Err(_) => true,
+    }
+}
+
+pub fn is_longer_beside(rt: HostRuntime, day: &[u8], name: &[u8], bytes: i64) -> bool {
+    let mut path = [0u8; 4096];
     let n = beside(day, name, &mut path);
-    is_longer(&path[0..n], bytes)
-}
-
-// One read into the room from a place on: how many bytes came.
-fn read_some(fd: i32, room: &mut [u8], at: usize) -> usize
-    requires { at ≤ length room.old }
-    ensures { at + result ≤ length room.old }
-{
-    let rest = &mut room[at..];
-    let got = libc::read(fd, rest);
-    io::count(got, rest)
-}
-
-// Fills the room until the file ends, a read fails or the room is full.
-fn fill(fd: i32, room: &mut [u8]) -> usize
-    ensures { result ≤ length room.new }
-{
-    let mut at = 0usize;
-    while at < room.len() {
-        let more = read_some(fd, room, at);
-        if more == 0 {
-            return at;
-        }
-        at += more;
-    }
-    at
+    is_longer(rt, &path[0..n], bytes)
 }
 
 // Whether the file ends here, by one read more: standard error has why not.
-fn is_at_end(fd: i32, path: &[u8]) -> bool {
+fn is_at_end(rt: HostRuntime, file: &mut File, path: &[u8]) -> bool {
     let mut byte = [0u8; 1];
-    let got = libc::read(fd, &mut byte);
-    if got < 0 {
-        os::fail(path);
-        return false;
+    match file.read(&mut byte) {
+        Ok(0) => true,
+        Ok(_) => {
+            case_files::tell(rt, path, "too long");
+            false
+        }
+        Err(e) => {
+            case_files::tell(rt, path, e);
+            false
+        }
     }
-    if 0 < got {
-        io::write_all(libc::STDERR_FILENO, path);
-        io::write_all(libc::STDERR_FILENO, b": too long\n");
-        return false;
-    }
-    true
 }

@@ -28,7 +28,7 @@ pub fn bank(
     page: &mut [u8],
 ) -> Turn {
     let name = day_line::field(line, 2);
-    let read = files::read_beside(day, name, file);
+    let read = files::read_beside(turn.rt, day, name, file);
     let bytes = read.bytes;
     if read.readable {
         bank_of(turn, &file[0..bytes], set, floats, wholes, page)
@@ -100,7 +100,7 @@ fn copy_floats(from: &[f64], to: &mut [f64]) {
 }
 
 fn bank_told(turn: Turn, depth: u64, rounds: u64, page: &mut [u8]) -> Turn {
-    let at = page::make_room(page, turn.used);
+    let at = page::make_room(turn.rt, page, turn.used);
     let used = shown::bank(page, at, turn.number, rounds, depth);
     turns::done(turn, used)
 }
@@ -117,7 +117,7 @@ pub fn table(
     page: &mut [u8],
 ) -> Turn {
     let name = day_line::field(line, 1);
-    let read = files::read_beside(day, name, file);
+    let read = files::read_beside(turn.rt, day, name, file);
     let bytes = read.bytes;
     if read.readable {
         table_of(turn, &file[0..bytes], set, floats, wholes, page)
@@ -187,7 +187,7 @@ fn copy_wholes(from: &[u32], to: &mut [u32]) {
 }
 
 fn table_told(turn: Turn, rows: u64, page: &mut [u8]) -> Turn {
-    let at = page::make_room(page, turn.used);
+    let at = page::make_room(turn.rt, page, turn.used);
     let used = shown::table(page, at, turn.number, rows);
     turns::done(turn, used)
 }

@@ -16,7 +16,7 @@ pub fn series(turn: Turn, storage: &[u64], page: &mut [u8]) -> Turn {
 }
 
 fn headed(turn: Turn, seconds: u64, page: &mut [u8]) -> Turn {
-    let at = page::make_room(page, turn.used);
+    let at = page::make_room(turn.rt, page, turn.used);
     let used = series_lines::series_head(page, at, turn.number, seconds);
     turns::done(turn, used)
 }
@@ -41,7 +41,7 @@ fn row(turn: Turn, k: u64, storage: &[u64], page: &mut [u8]) -> Turn {
             committed,
             steps,
         } => {
-            let at = page::make_room(page, turn.used);
+            let at = page::make_room(turn.rt, page, turn.used);
             let used = series_lines::series_row(
                 page,
                 at,
@@ -121,7 +121,7 @@ fn bit_row(
     mean_committed: f64,
     page: &mut [u8],
 ) -> Turn {
-    let at = page::make_room(page, turn.used);
+    let at = page::make_room(turn.rt, page, turn.used);
     let used = series_lines::series_bits(
         page,
         at,
@@ -142,7 +142,7 @@ pub fn day(turn: Turn, storage: &[u64], page: &mut [u8]) -> Turn {
 }
 
 fn figure_told(turn: Turn, figure: f64, page: &mut [u8]) -> Turn {
-    let at = page::make_room(page, turn.used);
+    let at = page::make_room(turn.rt, page, turn.used);
     let used = series_lines::day(page, at, turn.number, figure);
     turns::done(turn, used)
 }

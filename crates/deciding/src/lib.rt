@@ -1,4 +1,6 @@
 // What each policy drafts, and what becomes of the worker's record, for a caller that has judged what a plan is lent.
+#![tactic(auto)]
+
 mod mean;
 mod toward;
 
@@ -15,7 +17,7 @@ use ledger_rows::layout::Past;
 use settings::{Policy, Settings};
 
 // How many slots were weighed, and the worker's new record, if there is one.
-#[derive(Drop)]
+#[derive(Clone, Copy)]
 pub struct Choice {
     pub weighed: usize,
     pub change: Decision,
@@ -44,7 +46,7 @@ fn by_mean(
 ) -> Choice
     requires gamma_bound { (settings.gamma ≤ 64) × (length drafts.old ≡ ask.sequences) × (length curve.now ≡ gamma_in settings ask.depth + 1) }
     requires depth_in_bounds { is_trace settings.model ≡ true → gamma_in settings ask.depth < length bank_curve.now }
-    ensures { record { drafts = drafts.exit.now; weighed = result.weighed; change = result.change } ≡ by_mean (looped settings ask loaded.now) settings ask (lent_of positions.now loaded.now [] bank_curve.now []) curve.now }
+    ensures { record { drafts = drafts.new; weighed = result.weighed; change = result.change } ≡ by_mean (looped settings ask loaded.now) settings ask (lent_of positions.now loaded.now [] bank_curve.now []) curve.now }
 {
     let gamma = settings::gamma_in(settings, ask.depth);
     let depth = mean::mean_depth(settings, ask, gamma, positions, loaded, bank_curve, curve);
@@ -67,7 +69,7 @@ fn by_gate(
     drafts: &mut [u32],
 ) -> Choice
     requires { Batched settings ask (gamma_in settings ask.depth) indices.now curve.now drafts.old }
-    ensures { record { drafts = drafts.exit.now; weighed = result.weighed; change = result.change } ≡ by_gate (looped settings ask loaded.now) settings ask (lent_of positions.now loaded.now signals.now [] indices.now) curve.now }
+    ensures { record { drafts = drafts.new; weighed = result.weighed; change = result.change } ≡ by_gate (looped settings ask loaded.now) settings ask (lent_of positions.now loaded.now signals.now [] indices.now) curve.now }
 {
     let gamma = settings::gamma_in(settings, ask.depth);
     let gated = gating::gate_batch(
@@ -90,7 +92,7 @@ fn put_toward(
 ) -> Choice
     requires drafts_len { (length drafts.old ≡ ask.sequences) × (length curve.now ≤ 65) }
     requires held { past.kind ≡ 2 → Held past }
-    ensures { record { drafts = drafts.exit.now; weighed = result.weighed; change = result.change } ≡ all_put ask.sequences ask.a ask.b (toward settings.switch curve.now target past) }
+    ensures { record { drafts = drafts.new; weighed = result.weighed; change = result.change } ≡ all_put ask.sequences ask.a ask.b (toward settings.switch curve.now target past) }
 {
     let switch = settings.switch;
     let next = toward::toward(switch, curve, target, past);
@@ -121,7 +123,7 @@ fn by_aggregate(
 ) -> Choice
     requires batched { Batched settings ask (gamma_in settings ask.depth) indices.now curve.now drafts.old }
     requires held { is_unconstrained settings.switch ≡ false → past.kind ≡ 2 → Held past }
-    ensures { record { drafts = drafts.exit.now; weighed = result.weighed; change = result.change } ≡ by_aggregate (looped settings ask loaded.now) settings ask (lent_of positions.now loaded.now signals.now [] indices.now) curve.now past }
+    ensures { record { drafts = drafts.new; weighed = result.weighed; change = result.change } ≡ by_aggregate (looped settings ask loaded.now) settings ask (lent_of positions.now loaded.now signals.now [] indices.now) curve.now past }
 {
     let gamma = settings::gamma_in(settings, ask.depth);
     let gated = gating::gate_batch(
@@ -153,7 +155,7 @@ pub fn decide(
     drafts: &mut [u32],
 ) -> Choice
     requires { Ready settings ask past bank_curve.now indices.now curve.now drafts.old }
-    ensures { record { drafts = drafts.exit.now; weighed = result.weighed; change = result.change } ≡ decided_by (looped settings ask loaded.now) settings ask (lent_of positions.now loaded.now signals.now bank_curve.now indices.now) curve.now settings.policy past }
+    ensures { record { drafts = drafts.new; weighed = result.weighed; change = result.change } ≡ decided_by (looped settings ask loaded.now) settings ask (lent_of positions.now loaded.now signals.now bank_curve.now indices.now) curve.now settings.policy past }
 {
     let policy = settings.policy;
     match policy {

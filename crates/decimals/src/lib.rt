@@ -1,11 +1,13 @@
 // What the text of a decimal says, and the number of its refusal.
+#![tactic(auto)]
+
 pub mod inner;
 
 ghost use Rattle.std.specs.Prelude.{◌≡◌};
 ghost use Rattle.decimals.specs.Decimals.{decimal_refusal};
 
 // Malformed goes before too long.
-#[derive(Drop)]
+#[derive(Clone, Copy)]
 pub enum Decimal {
     Value(f64),
     Malformed,

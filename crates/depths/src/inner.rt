@@ -30,7 +30,7 @@ fn worth(expected: f64, n: u32, cost: f64) -> f64
 }
 
 // The best depth so far, and its goodput.
-#[derive(Drop)]
+#[derive(Clone, Copy)]
 pub struct Best {
     pub depth: u32,
     pub worth: f64,

@@ -1,4 +1,6 @@
 // What a draft is asked with: its counts, its widths, and the experts that are loaded.
+#![tactic(auto)]
+
 pub mod inner;
 
 // The most drafts.

@@ -1,4 +1,6 @@
 // What is told across the C boundary of an answer that is no plain number, to runs that call every entry point from outside.
+#![tactic(auto)]
+
 ghost use Rattle.std.specs.Prelude.{◌≡◌};
 ghost use Rattle.exported.specs.Telling.{part_told};
 ghost use Rattle.exported.specs.Spelled.{whole_told, decimal_told};
@@ -8,7 +10,7 @@ use numeral::answer::Whole;
 
 // The number of the refusal, 0 for none, and two figures, each 0 where there is none.
 #[repr(C)]
-#[derive(Drop)]
+#[derive(Clone, Copy)]
 pub struct Told {
     pub refusal: u64,
     pub first: u64,

@@ -9,8 +9,7 @@ use exported::Told;
 use speculative::drafter;
 
 // `first` is the number of its kind, and `second` its first size.
-#[unsafe(no_mangle)]
-pub extern "C" fn speculative_no_drafter() -> Told
+pub fn speculative_no_drafter() -> Told
     ensures { result ≡ drafter_told absent }
 {
     let none = drafter::no_drafter();
@@ -18,8 +17,7 @@ pub extern "C" fn speculative_no_drafter() -> Told
 }
 
 // Whether the head drafts one block for all sequences.
-#[unsafe(no_mangle)]
-pub extern "C" fn speculative_is_block(kind: u32, p: f64, q: f64, x: u32, y: u32, z: u32) -> bool
+pub fn speculative_is_block(kind: u32, p: f64, q: f64, x: u32, y: u32, z: u32) -> bool
     ensures { result ≡ is_block (drafter_of kind p q x y z) }
 {
     let head = asked::drafter_of(kind, p, q, x, y, z);
@@ -27,15 +25,7 @@ pub extern "C" fn speculative_is_block(kind: u32, p: f64, q: f64, x: u32, y: u32
 }
 
 // The number of the refusal, 0 for none.
-#[unsafe(no_mangle)]
-pub extern "C" fn speculative_drafter_refusal(
-    kind: u32,
-    p: f64,
-    q: f64,
-    x: u32,
-    y: u32,
-    z: u32,
-) -> u64
+pub fn speculative_drafter_refusal(kind: u32, p: f64, q: f64, x: u32, y: u32, z: u32) -> u64
     ensures { result ≡ drafter_refusal (drafter_of kind p q x y z) }
 {
     let head = asked::drafter_of(kind, p, q, x, y, z);
@@ -43,8 +33,7 @@ pub extern "C" fn speculative_drafter_refusal(
 }
 
 // The number of the refusal, 0 for none.
-#[unsafe(no_mangle)]
-pub extern "C" fn speculative_rates_refusal(peak: f64, bw: f64, kv_delta: f64) -> u64
+pub fn speculative_rates_refusal(peak: f64, bw: f64, kv_delta: f64) -> u64
     ensures { result ≡ rates_refusal (rates_of peak bw kv_delta) }
 {
     let rates = asked::rates_of(peak, bw, kv_delta);
@@ -52,8 +41,7 @@ pub extern "C" fn speculative_rates_refusal(peak: f64, bw: f64, kv_delta: f64) -
 }
 
 // `first` is the seconds.
-#[unsafe(no_mangle)]
-pub extern "C" fn speculative_seconds(
+pub fn speculative_seconds(
     kind: u32,
     p: f64,
     q: f64,
@@ -77,8 +65,7 @@ pub extern "C" fn speculative_seconds(
 }
 
 // `first` is the seconds.
-#[unsafe(no_mangle)]
-pub extern "C" fn speculative_pass_seconds(
+pub fn speculative_pass_seconds(
     kind: u32,
     p: f64,
     q: f64,
@@ -100,8 +87,7 @@ pub extern "C" fn speculative_pass_seconds(
 }
 
 // `first` is the seconds.
-#[unsafe(no_mangle)]
-pub extern "C" fn speculative_ragged_seconds(
+pub fn speculative_ragged_seconds(
     kind: u32,
     p: f64,
     q: f64,

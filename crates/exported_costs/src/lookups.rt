@@ -8,8 +8,7 @@ use crate::answers;
 use exported::Told;
 
 // `first` is the value.
-#[unsafe(no_mangle)]
-pub extern "C" fn bank_expected_accepted(curve: &[f64], depth: u32, gamma: u32) -> Told
+pub fn bank_expected_accepted(curve: &[f64], depth: u32, gamma: u32) -> Told
     ensures { result ≡ entry_told (expected_accepted curve.now depth gamma) }
 {
     let answer = bank::expected_accepted(curve, depth, gamma);
@@ -17,8 +16,7 @@ pub extern "C" fn bank_expected_accepted(curve: &[f64], depth: u32, gamma: u32) 
 }
 
 // The number of the refusal, 0 for none.
-#[unsafe(no_mangle)]
-pub extern "C" fn cost_lookup_table_refusal(
+pub fn cost_lookup_table_refusal(
     depths: &[u32],
     batches: &[u32],
     seconds: &[f64],
@@ -30,8 +28,7 @@ pub extern "C" fn cost_lookup_table_refusal(
 }
 
 // `first` is 1 where it is measured, and `second` the seconds.
-#[unsafe(no_mangle)]
-pub extern "C" fn cost_lookup_step_time(
+pub fn cost_lookup_step_time(
     depths: &[u32],
     batches: &[u32],
     seconds: &[f64],
@@ -46,8 +43,7 @@ pub extern "C" fn cost_lookup_step_time(
 }
 
 // `first` is 1 for yes.
-#[unsafe(no_mangle)]
-pub extern "C" fn cost_lookup_has_draft(
+pub fn cost_lookup_has_draft(
     depths: &[u32],
     batches: &[u32],
     seconds: &[f64],
@@ -61,8 +57,7 @@ pub extern "C" fn cost_lookup_has_draft(
 }
 
 // `first` is 1 where it is measured, and `second` the seconds.
-#[unsafe(no_mangle)]
-pub extern "C" fn cost_lookup_step_time_frac(
+pub fn cost_lookup_step_time_frac(
     depths: &[u32],
     batches: &[u32],
     seconds: &[f64],
@@ -77,8 +72,7 @@ pub extern "C" fn cost_lookup_step_time_frac(
 }
 
 // `first` is one more than the first batch, 0 where it is unmeasured, and `second` the last batch.
-#[unsafe(no_mangle)]
-pub extern "C" fn cost_lookup_batch_range(
+pub fn cost_lookup_batch_range(
     depths: &[u32],
     batches: &[u32],
     seconds: &[f64],
@@ -92,8 +86,7 @@ pub extern "C" fn cost_lookup_batch_range(
 }
 
 // `first` is 1 where it is measured, and `second` the batch.
-#[unsafe(no_mangle)]
-pub extern "C" fn cost_lookup_max_batch(
+pub fn cost_lookup_max_batch(
     depths: &[u32],
     batches: &[u32],
     seconds: &[f64],
@@ -107,8 +100,7 @@ pub extern "C" fn cost_lookup_max_batch(
 }
 
 // `first` is the price of depth `at`, 0 where there is no such depth.
-#[unsafe(no_mangle)]
-pub extern "C" fn cost_lookup_price_curve(
+pub fn cost_lookup_price_curve(
     depths: &[u32],
     batches: &[u32],
     seconds: &[f64],

@@ -8,8 +8,7 @@ use crate::{answers, asked};
 use exported::Told;
 
 // The value of position d.
-#[unsafe(no_mangle)]
-pub extern "C" fn acceptance_a_d(model: u32, alpha: f64, positions: &[f64], d: usize) -> f64
+pub fn acceptance_a_d(model: u32, alpha: f64, positions: &[f64], d: usize) -> f64
     ensures { result ≡ a_d (model_of model alpha) positions.now d }
 {
     let accepts = asked::model_of(model, alpha);
@@ -17,8 +16,7 @@ pub extern "C" fn acceptance_a_d(model: u32, alpha: f64, positions: &[f64], d: u
 }
 
 // The number of the refusal, 0 for none.
-#[unsafe(no_mangle)]
-pub extern "C" fn acceptance_model_refusal(model: u32, alpha: f64, positions: &[f64]) -> u64
+pub fn acceptance_model_refusal(model: u32, alpha: f64, positions: &[f64]) -> u64
     ensures { result ≡ model_refusal (model_of model alpha) positions.now }
 {
     let accepts = asked::model_of(model, alpha);
@@ -26,13 +24,7 @@ pub extern "C" fn acceptance_model_refusal(model: u32, alpha: f64, positions: &[
 }
 
 // `first` is the value.
-#[unsafe(no_mangle)]
-pub extern "C" fn acceptance_expected_accepted(
-    model: u32,
-    alpha: f64,
-    positions: &[f64],
-    gamma: u32,
-) -> Told
+pub fn acceptance_expected_accepted(model: u32, alpha: f64, positions: &[f64], gamma: u32) -> Told
     ensures { result ≡ value_told (expected_accepted (model_of model alpha) positions.now gamma) }
 {
     let accepts = asked::model_of(model, alpha);
@@ -41,8 +33,7 @@ pub extern "C" fn acceptance_expected_accepted(
 }
 
 // `first` is the commits, and `second` the draws used.
-#[unsafe(no_mangle)]
-pub extern "C" fn acceptance_sample_accepted(
+pub fn acceptance_sample_accepted(
     model: u32,
     alpha: f64,
     positions: &[f64],

@@ -45,7 +45,7 @@ pub extern "C" fn asking_asked_refusal(
     drafts: usize,
     commits: usize,
 ) -> u64
-    ensures { result ≡ asked_refusal (settings_of settings) (ask_of ask) (record { positions = positions.entry.now; roofline = roofline.now; depths = depths.now; batches = batches.now; seconds = seconds.now; loaded = loaded.now; bank_commits_of = bank_commits.now; signals = signals.now; bank_curve_of = bank_curve.now; draws = draws.now; indices = indices.now }) storage.now drafts commits }
+    ensures { result ≡ asked_refusal (settings_of settings) (ask_of ask) (record { positions = positions.now; roofline = roofline.now; depths = depths.now; batches = batches.now; seconds = seconds.now; loaded = loaded.now; bank_commits_of = bank_commits.now; signals = signals.now; bank_curve_of = bank_curve.now; draws = draws.now; indices = indices.now }) storage.now drafts commits }
 {
     let set = asked::settings_of(settings);
     let asks = asked::ask_of(ask);

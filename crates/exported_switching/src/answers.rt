@@ -7,7 +7,7 @@ use switching::{Answer, Collected, Decided, Stall, Switching};
 // The number of the refusal, 0 for none; the width decided or the bits of the stall collected, 0 where there is a refusal; and the record that is kept,
 // also by a refusal.
 #[repr(C)]
-#[derive(Drop)]
+#[derive(Clone, Copy)]
 pub struct Switched {
     pub refusal: u64,
     pub answer: u64,

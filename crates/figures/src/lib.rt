@@ -1,4 +1,6 @@
 // Means of whole_number sums and floats on a page, to six decimals, and shares in whole percents.
+#![tactic(auto)]
+
 ghost use Rattle.std.specs.Prelude.{◌≡◌, ◌+◌, ◌*◌, ◌/◌, ◌^◌, ◌≤◌, max};
 ghost use Rattle.page.specs.Page.{Added};
 ghost use Rattle.figures.specs.Figures.{limit, millionths, mean_text, mean_bar, share_text, figure_millionths, figure_text};

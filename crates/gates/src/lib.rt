@@ -1,5 +1,7 @@
 // The two gates: which slots of the sequences' drafts are worth their price. Both take every chain, curve, drafter, rate and list: what is lent is
 // judged first, and nothing is written where it is refused.
+#![tactic(auto)]
+
 ghost use Rattle.std.specs.Prelude.{◌≡◌};
 ghost use Rattle.gates.specs.Entry.{room_refusal, ragged_answer, block_answer};
 
@@ -8,7 +10,7 @@ use speculative::drafter::{DrafterCost, Rates, drafter_refusal};
 use verify_prices::PriceMode;
 
 // How many slots were weighed, or the number of the refusal.
-#[derive(Drop)]
+#[derive(Clone, Copy)]
 pub enum Gated {
     Weighed(usize),
     Refused(u64),

@@ -1,5 +1,7 @@
 // What the survival chains of a batch give: the batch's depth, and each sequence's own draft, for a caller that has judged what
 // it lends.
+#![tactic(auto)]
+
 ghost use Rattle.std.specs.Prelude.{◌≡◌, ◌+◌, ◌*◌, ◌≤◌, ◌<◌, length, replicate, true};
 ghost use Rattle.std.proofs.lemmas.List.Edits.{sets};
 ghost use Rattle.settings.specs.Settings.{is_trace};
@@ -16,7 +18,7 @@ use speculative::drafter::{DrafterCost, Rates};
 use verify_prices::PriceMode;
 
 // The batch's depth, and how many slots were weighed.
-#[derive(Drop)]
+#[derive(Clone, Copy)]
 pub struct Gated {
     pub depth: u32,
     pub weighed: usize,

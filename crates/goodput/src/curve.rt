@@ -3,7 +3,7 @@ ghost use Rattle.std.specs.Prelude.{◌≡◌, ◌+◌, take};
 ghost use Rattle.goodput.specs.Curve.{in_force};
 
 // Where prices come from: with a table it is the only source.
-#[derive(Drop)]
+#[derive(Clone, Copy)]
 pub enum Source {
     Roofline,
     Table,

@@ -5,7 +5,7 @@ ghost use Rattle.goodput.specs.Depth.{depth_answer, aggregate_answer};
 use speculative::drafter::{DrafterCost, Rates};
 
 // The best depth, or the number of the refusal.
-#[derive(Drop)]
+#[derive(Clone, Copy)]
 pub enum Depth {
     Best(u32),
     Refused(u64),

@@ -5,7 +5,7 @@ ghost use Rattle.goodput.specs.Expected.{expected_by_depth, model_expected, bank
 use acceptance::AcceptanceModel;
 
 // The values are written, or the number of the refusal.
-#[derive(Drop)]
+#[derive(Clone, Copy)]
 pub enum Answer {
     Written,
     Refused(u64),

@@ -5,7 +5,7 @@ ghost use Rattle.goodput.specs.Pricing.{cost_of};
 use speculative::drafter::{DrafterCost, Rates};
 
 // The total cost, or the number of the refusal.
-#[derive(Drop)]
+#[derive(Clone, Copy)]
 pub enum Cost {
     Seconds(f64),
     Refused(u64),

@@ -3,7 +3,7 @@ ghost use Rattle.std.specs.Prelude.{◌≡◌};
 ghost use Rattle.goodput.specs.Survival.{survival_of};
 
 // The number of the refusal, 0 for none, and the chain: 0.0 in the slots past it, and in all of them where it is refused.
-#[derive(Drop)]
+#[derive(Clone, Copy)]
 pub struct Survival {
     pub refusal: u64,
     pub chain: [f64; 64],

@@ -1,4 +1,6 @@
 // What is refused of what the entry points of goodput are lent. Every function takes every number, list and record.
+#![tactic(auto)]
+
 ghost use Rattle.std.specs.Prelude.{◌≡◌, ◌≤◌, ◌*◌, length};
 ghost use Rattle.speculative.specs.Drafter.{drafter_refusal, inputs_refusal};
 ghost use Rattle.goodput_judges.specs.Refusals.{survival_refusal, chains_refusal, model_values_refusal, bank_sizes_refusal, bank_values_refusal, sizes_refusal, cost_refusal, is_weighed, depth_refusal, is_priced_batch, aggregate_refusal};

@@ -13,7 +13,7 @@ use width_way::Settling;
 
 // The draws that a plan used and the slots that it weighed.
 #[repr(C)]
-#[derive(Drop)]
+#[derive(Clone, Copy)]
 pub struct HostPlan {
     pub refusal: u64,
     pub used: usize,
@@ -21,14 +21,14 @@ pub struct HostPlan {
 }
 
 #[repr(C)]
-#[derive(Drop)]
+#[derive(Clone, Copy)]
 pub struct HostCount {
     pub refusal: u64,
     pub count: u64,
 }
 
 #[repr(C)]
-#[derive(Drop)]
+#[derive(Clone, Copy)]
 pub struct HostFigure {
     pub refusal: u64,
     pub value: f64,
@@ -36,7 +36,7 @@ pub struct HostFigure {
 
 // `held` is 1 for a worker that is held, else 0.
 #[repr(C)]
-#[derive(Drop)]
+#[derive(Clone, Copy)]
 pub struct HostWorker {
     pub refusal: u64,
     pub held: u64,
@@ -47,7 +47,7 @@ pub struct HostWorker {
 
 // A file that was read, or the row that it is refused for. A table has no depth.
 #[repr(C)]
-#[derive(Drop)]
+#[derive(Clone, Copy)]
 pub struct HostRead {
     pub refusal: u64,
     pub row: u64,
@@ -58,7 +58,7 @@ pub struct HostRead {
 // What becomes of a width. `settles` is 1 where it is the target after at most so many rounds, by so many walks; 2 at once; 3 never, for max_step
 // is 0; 4 where the target is no candidate; 0 where it is refused. `width` is where 3 and 4 come to and stay.
 #[repr(C)]
-#[derive(Drop)]
+#[derive(Clone, Copy)]
 pub struct HostSettling {
     pub refusal: u64,
     pub settles: u64,

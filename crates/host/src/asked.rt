@@ -12,7 +12,7 @@ use verify_prices::inner::mode_of;
 
 // `policy`, `model`, `steps`, `drafter` and `prices` are numbers of cases. Only the fields of the case that is named are read.
 #[repr(C)]
-#[derive(Drop)]
+#[derive(Clone, Copy)]
 pub struct HostSettings {
     pub alpha: f64,
     pub cost_ms: f64,
@@ -35,7 +35,7 @@ pub struct HostSettings {
 }
 
 #[repr(C)]
-#[derive(Drop)]
+#[derive(Clone, Copy)]
 pub struct HostRates {
     pub peak: f64,
     pub bw: f64,
@@ -44,7 +44,7 @@ pub struct HostRates {
 
 // `source` is the number of a case.
 #[repr(C)]
-#[derive(Drop)]
+#[derive(Clone, Copy)]
 pub struct HostAsk {
     pub a: u64,
     pub b: u64,

@@ -33,7 +33,7 @@ pub fn plan_judged(
 ) -> Planned
     requires positions_value { settings_refusal settings positions.now ≡ 0 }
     requires commits_value { asked_refusal settings ask (record { positions = positions.now; roofline = roofline.now; depths = depths.now; batches = batches.now; seconds = seconds.now; loaded = loaded.now; bank_commits_of = bank_commits.now; signals = signals.now; bank_curve_of = bank_curve.now; draws = draws.now; indices = indices.now }) storage.old (length drafts.old) (length commits.old) ≡ 0 }
-    ensures { record { answer = result; storage = storage.new; drafts = drafts.new; commits = commits.new } ≡ some_planned settings ask (record { positions = positions.entry.now; roofline = roofline.now; depths = depths.now; batches = batches.now; seconds = seconds.now; loaded = loaded.now; bank_commits_of = bank_commits.now; signals = signals.now; bank_curve_of = bank_curve.now; draws = draws.now; indices = indices.now }) storage.old drafts.old commits.old }
+    ensures { record { answer = result; storage = storage.new; drafts = drafts.new; commits = commits.new } ≡ some_planned settings ask (record { positions = positions.now; roofline = roofline.now; depths = depths.now; batches = batches.now; seconds = seconds.now; loaded = loaded.now; bank_commits_of = bank_commits.now; signals = signals.now; bank_curve_of = bank_curve.now; draws = draws.now; indices = indices.now }) storage.old drafts.old commits.old }
 {
     let late = judging::late_refusal(settings, ask, signals, indices, storage);
     match draws::draw(

@@ -8,8 +8,7 @@ use host::{answers, asked};
 use width_way::Settling;
 
 // How long until the width is the target; the widths after each walk stand at the front of `widths`.
-#[unsafe(no_mangle)]
-pub extern "C" fn latchmeander_settles(
+pub fn latchmeander_settles(
     settings: HostSettings,
     ask: HostAsk,
     roofline: &[f64],
@@ -20,7 +19,7 @@ pub extern "C" fn latchmeander_settles(
     target: u32,
     widths: &mut [u32],
 ) -> HostSettling
-    ensures { (result, widths.new) ≡ settles_called settings ask (record { roofline = roofline.entry.now; depths = depths.now; batches = batches.now; seconds = seconds.now }) width target widths.old }
+    ensures { (result, widths.new) ≡ settles_called settings ask (record { roofline = roofline.now; depths = depths.now; batches = batches.now; seconds = seconds.now }) width target widths.old }
 {
     let known = asked::settings_fit(settings);
     if !known {

@@ -8,8 +8,7 @@ use host::answers;
 use host::answers::HostRead;
 
 // A bank: its rounds and their depth, and its columns at the fronts of the buffers.
-#[unsafe(no_mangle)]
-pub extern "C" fn latchmeander_bank_read(
+pub fn latchmeander_bank_read(
     text: &[u8],
     commits: &mut [u32],
     signals: &mut [f64],
@@ -22,8 +21,7 @@ pub extern "C" fn latchmeander_bank_read(
 }
 
 // A cost table: its rows, in order at the fronts of the columns.
-#[unsafe(no_mangle)]
-pub extern "C" fn latchmeander_table_read(
+pub fn latchmeander_table_read(
     text: &[u8],
     depths: &mut [u32],
     batches: &mut [u32],

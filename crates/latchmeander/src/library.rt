@@ -5,8 +5,7 @@ ghost use Rattle.host.specs.Library.{version};
 use host::library;
 
 // The version, which a host compares with its header's before its first call.
-#[unsafe(no_mangle)]
-pub extern "C" fn latchmeander_version() -> u64
+pub fn latchmeander_version() -> u64
     ensures { result ≡ version }
 {
     library::version()

@@ -9,8 +9,7 @@ use planner::{Planned, Round};
 use speculative::drafter::DraftTime;
 
 // A plan; the drafts and the commits of the sequences stand at the fronts of `drafts` and `commits`.
-#[unsafe(no_mangle)]
-pub extern "C" fn latchmeander_plan(
+pub fn latchmeander_plan(
     settings: HostSettings,
     ask: HostAsk,
     positions: &[f64],
@@ -28,7 +27,7 @@ pub extern "C" fn latchmeander_plan(
     drafts: &mut [u32],
     commits: &mut [u32],
 ) -> HostPlan
-    ensures { (result, storage.new, drafts.new, commits.new) ≡ plan_called settings ask (record { positions = positions.entry.now; roofline = roofline.now; depths = depths.now; batches = batches.now; seconds = seconds.now; loaded = loaded.now; bank_commits_of = bank_commits.now; signals = signals.now; bank_curve_of = bank_curve.now; draws = draws.now; indices = indices.now }) storage.old drafts.old commits.old }
+    ensures { (result, storage.new, drafts.new, commits.new) ≡ plan_called settings ask (record { positions = positions.now; roofline = roofline.now; depths = depths.now; batches = batches.now; seconds = seconds.now; loaded = loaded.now; bank_commits_of = bank_commits.now; signals = signals.now; bank_curve_of = bank_curve.now; draws = draws.now; indices = indices.now }) storage.old drafts.old commits.old }
 {
     let known = asked::settings_fit(settings);
     if !known {
@@ -62,8 +61,7 @@ pub extern "C" fn latchmeander_plan(
 }
 
 // The seconds that the drafter of the settings takes, where each sequence has its own width.
-#[unsafe(no_mangle)]
-pub extern "C" fn latchmeander_drafter_seconds(
+pub fn latchmeander_drafter_seconds(
     settings: HostSettings,
     rates: HostRates,
     verify_c: f64,
@@ -83,8 +81,7 @@ pub extern "C" fn latchmeander_drafter_seconds(
 }
 
 // How many of a sequence's drafts a verify accepts, where a round was planned that commits so many.
-#[unsafe(no_mangle)]
-pub extern "C" fn latchmeander_accepted(draft: u32, planned: bool, commits: u32) -> u32
+pub fn latchmeander_accepted(draft: u32, planned: bool, commits: u32) -> u32
     ensures { result ≡ accepted_called draft planned commits }
 {
     if planned {

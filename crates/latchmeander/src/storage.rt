@@ -9,16 +9,14 @@ use host::answers;
 use host::answers::{HostCount, HostFigure, HostWorker};
 
 // The words that a planner takes.
-#[unsafe(no_mangle)]
-pub extern "C" fn latchmeander_room() -> usize
+pub fn latchmeander_room() -> usize
     ensures { result ≡ room }
 {
     answers::room()
 }
 
 // An empty planner.
-#[unsafe(no_mangle)]
-pub extern "C" fn latchmeander_fresh(storage: &mut [u64]) -> u64
+pub fn latchmeander_fresh(storage: &mut [u64]) -> u64
     ensures { (result, storage.new) ≡ on_first answer_of (emptied storage.old) }
 {
     let answer = ledger::fresh(storage);
@@ -26,8 +24,7 @@ pub extern "C" fn latchmeander_fresh(storage: &mut [u64]) -> u64
 }
 
 // A worker's stall, cleared.
-#[unsafe(no_mangle)]
-pub extern "C" fn latchmeander_collect(storage: &mut [u64], a: u64, b: u64) -> HostFigure
+pub fn latchmeander_collect(storage: &mut [u64], a: u64, b: u64) -> HostFigure
     ensures { (result, storage.new) ≡ on_first stall_of (collected storage.old a b) }
 {
     let answer = planner::collect(storage, a, b);
@@ -35,8 +32,7 @@ pub extern "C" fn latchmeander_collect(storage: &mut [u64], a: u64, b: u64) -> H
 }
 
 // The newest change that stands is taken back.
-#[unsafe(no_mangle)]
-pub extern "C" fn latchmeander_withdraw(storage: &mut [u64]) -> u64
+pub fn latchmeander_withdraw(storage: &mut [u64]) -> u64
     ensures { (result, storage.new) ≡ on_first answer_of (withdrawn storage.old) }
 {
     let answer = planner::withdraw(storage);
@@ -44,8 +40,7 @@ pub extern "C" fn latchmeander_withdraw(storage: &mut [u64]) -> u64
 }
 
 // How many changes can be withdrawn.
-#[unsafe(no_mangle)]
-pub extern "C" fn latchmeander_available(storage: &[u64]) -> HostCount
+pub fn latchmeander_available(storage: &[u64]) -> HostCount
     ensures { result ≡ count_of (counted storage.now (available storage.now)) }
 {
     let answer = ledger::available(storage);
@@ -53,8 +48,7 @@ pub extern "C" fn latchmeander_available(storage: &[u64]) -> HostCount
 }
 
 // How many seconds are held.
-#[unsafe(no_mangle)]
-pub extern "C" fn latchmeander_seconds_held(storage: &[u64]) -> HostCount
+pub fn latchmeander_seconds_held(storage: &[u64]) -> HostCount
     ensures { result ≡ count_of (counted storage.now (seconds_held storage.now)) }
 {
     let answer = ledger::seconds_held(storage);
@@ -62,8 +56,7 @@ pub extern "C" fn latchmeander_seconds_held(storage: &[u64]) -> HostCount
 }
 
 // How many workers are held.
-#[unsafe(no_mangle)]
-pub extern "C" fn latchmeander_workers_held(storage: &[u64]) -> HostCount
+pub fn latchmeander_workers_held(storage: &[u64]) -> HostCount
     ensures { result ≡ count_of (counted storage.now (workers_held storage.now)) }
 {
     let answer = ledger::workers_held(storage);
@@ -71,8 +64,7 @@ pub extern "C" fn latchmeander_workers_held(storage: &[u64]) -> HostCount
 }
 
 // The seconds and their means, at the fronts of four buffers; the count is how many.
-#[unsafe(no_mangle)]
-pub extern "C" fn latchmeander_series(
+pub fn latchmeander_series(
     storage: &[u64],
     seconds: &mut [u64],
     mean_drafts: &mut [f64],
@@ -86,8 +78,7 @@ pub extern "C" fn latchmeander_series(
 }
 
 // The mean of the seconds' mean drafts.
-#[unsafe(no_mangle)]
-pub extern "C" fn latchmeander_day_figure(storage: &[u64]) -> HostFigure
+pub fn latchmeander_day_figure(storage: &[u64]) -> HostFigure
     ensures { result ≡ mean_of (day_figure storage.now) }
 {
     let answer = ledger::day_figure(storage);
@@ -95,8 +86,7 @@ pub extern "C" fn latchmeander_day_figure(storage: &[u64]) -> HostFigure
 }
 
 // A worker's record.
-#[unsafe(no_mangle)]
-pub extern "C" fn latchmeander_worker(storage: &[u64], a: u64, b: u64) -> HostWorker
+pub fn latchmeander_worker(storage: &[u64], a: u64, b: u64) -> HostWorker
     ensures { result ≡ found_of (worker_of storage.now a b) }
 {
     let answer = ledger::worker(storage, a, b);

@@ -1,35 +1,35 @@
 // What the calls answer, and what is asked of them.
 
 // Done, or refused with its number.
-#[derive(Drop)]
+#[derive(Clone, Copy)]
 pub enum Answer {
     Done,
     Refused(u64),
 }
 
 // A number held.
-#[derive(Drop)]
+#[derive(Clone, Copy)]
 pub enum Count {
     Is(u64),
     Refused(u64),
 }
 
 // The day figure.
-#[derive(Drop)]
+#[derive(Clone, Copy)]
 pub enum Figure {
     Mean(f64),
     Refused(u64),
 }
 
 // A worker's stall in seconds.
-#[derive(Drop)]
+#[derive(Clone, Copy)]
 pub enum Stall {
     Seconds(f64),
     Refused(u64),
 }
 
 // A worker's record, its stall by its bits.
-#[derive(Drop)]
+#[derive(Clone, Copy)]
 pub enum Found {
     Held { width: u64, rounds: u64, stall: u64 },
     Unknown,
@@ -37,7 +37,7 @@ pub enum Found {
 }
 
 // What a plan makes of a worker's record: nothing, or the record that the decision gave.
-#[derive(Drop)]
+#[derive(Clone, Copy)]
 pub enum Decision {
     Nothing,
     Put {

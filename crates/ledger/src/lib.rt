@@ -1,6 +1,8 @@
 // The planner's storage: the seconds with their sums, the workers with their records, and the newest changes, each of which can be taken back.
 // It is lent whole to each call. What a call answers and leaves is said for any content; what it means for a storage that only these calls
 // wrote is proved in `ledger_laws`.
+#![tactic(auto)]
+
 ghost use Rattle.std.specs.Prelude.{◌≡◌, ◌≤◌, length};
 ghost use Rattle.ledger_rows.specs.Layout.{room, available, seconds_held, workers_held};
 ghost use Rattle.ledger_workers.specs.Workers.{past_of};

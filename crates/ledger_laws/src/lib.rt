@@ -1,1 +1,2 @@
 // What the ledger is relied on for, as theorems about its definitions: it has no function of its own.
+#![tactic(auto)]

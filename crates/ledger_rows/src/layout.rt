@@ -51,7 +51,7 @@ pub const SECONDS: usize = WORKERS + WORKER * WORKERS_MOST;
 pub const ROOM: usize = SECONDS + SECOND * SECONDS_MOST;
 
 // The row of a key among the rows held, or before which it belongs, and whether it is held.
-#[derive(Drop)]
+#[derive(Clone, Copy)]
 pub struct Place {
     pub row: usize,
     pub rows: usize,
@@ -59,7 +59,7 @@ pub struct Place {
 }
 
 // What a plan adds at its second: its drafts, its sequences, and the committed of its drafts. One step goes with them.
-#[derive(Drop)]
+#[derive(Clone, Copy)]
 pub struct Step {
     pub second: u64,
     pub drafts: u64,
@@ -68,7 +68,7 @@ pub struct Step {
 }
 
 // What a worker's record was before a change: kind 2 where it was held, 1 where there was none, 0 where the change is of no worker.
-#[derive(Drop)]
+#[derive(Clone, Copy)]
 pub struct Past {
     pub kind: u64,
     pub width: u64,

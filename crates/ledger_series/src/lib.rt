@@ -1,7 +1,8 @@
 // The seconds' means, for the series and the day figure.
+#![tactic(auto)]
 
 // One second: its mean draft by sequence, its mean batch by step, and its mean committed by sequence.
-#[derive(Drop)]
+#[derive(Clone, Copy)]
 pub struct DepthSample {
     pub second: u64,
     pub mean_draft: f64,

@@ -1,5 +1,5 @@
 // What is answered for a row: its second with the drafts, the sequences, the committed and the steps added up in it; that there is no such row; or a refusal.
-#[derive(Drop)]
+#[derive(Clone, Copy)]
 pub enum Sums {
     Of {
         second: u64,

@@ -1,4 +1,6 @@
 // The whole_number sums of one of the seconds held: what its means are made of.
+#![tactic(auto)]
+
 pub mod answer;
 
 ghost use Rattle.std.specs.Prelude.{◌≡◌};

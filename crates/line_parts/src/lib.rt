@@ -1,4 +1,6 @@
 // Parts of a line: a number behind the words that name it.
+#![tactic(auto)]
+
 ghost use Rattle.std.specs.Prelude.{◌∷◌, ◌++◌};
 ghost use Rattle.page.specs.Page.{Added};
 ghost use Rattle.page.specs.Numbers.{decimal};

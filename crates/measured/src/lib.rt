@@ -1,4 +1,6 @@
 // The measured cost table: rows with their draft depths, batches and seconds, read from a text.
+#![tactic(auto)]
+
 mod filling;
 mod judging;
 
@@ -11,7 +13,7 @@ use cost_rows::inner;
 pub const MOST_ROWS: usize = 4096;
 
 // What reading a cost table answers: how many rows were kept, or the refusal's number and row.
-#[derive(Drop)]
+#[derive(Clone, Copy)]
 pub enum Answer {
     Table { rows: u32 },
     Refused { number: u64, row: u64 },

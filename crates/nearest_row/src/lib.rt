@@ -1,8 +1,10 @@
 // The row of a depth that is nearest to a batch, in a table that was judged.
+#![tactic(auto)]
+
 pub mod inner;
 
 // The row nearest to a batch: its batch and its seconds.
-#[derive(Drop)]
+#[derive(Clone, Copy)]
 pub enum Nearest {
     Measured(u32, f64),
     Unmeasured,

@@ -1,5 +1,7 @@
 // A page of text that is written out once it is full: few calls of the system for many small parts. What is added to a page goes as far as the
 // page has room; `make_room` sees to it that there is enough.
+#![tactic(auto)]
+
 ghost use Rattle.std.specs.Prelude.{◌≡◌, ◌+◌, ◌%◌, ◌≤◌, min, length, replicate};
 ghost use Rattle.io.specs.Digits.{last_digits, hex_digit_ascii};
 ghost use Rattle.page.specs.Page.{Added, roomy};
@@ -93,29 +95,31 @@ pub fn append_bar(page: &mut [u8], used: usize, n: u64) -> usize
 }
 
 // Writes the page's text to standard output, and answers whether that went well: where not, standard error has why.
-pub fn write_out(page: &[u8], used: usize) -> bool {
+pub fn write_out(rt: HostRuntime, page: &[u8], used: usize) -> bool {
     if page.len() < used {
         return false;
     }
-    let done = io::write_all(libc::STDOUT_FILENO, &page[..used]);
-    if !done {
-        os::fail(b"write");
+    match rt.write_all(&page[..used]) {
+        Ok(()) => true,
+        Err(e) => {
+            let _ = eprintln!(rt; "write: {e}");
+            false
+        }
     }
-    done
 }
 
 // The room that the longest line takes: a plan of 1,024 sequences.
 pub const LINE: usize = 32768;
 
 // Where the next line starts: where the page has too little room for one more, its text is written out and the page is empty again.
-pub fn make_room(page: &[u8], used: usize) -> usize
+pub fn make_room(rt: HostRuntime, page: &[u8], used: usize) -> usize
     ensures { result ≡ roomy (length page.now) used }
 {
     if page.len() < used {
         return 0;
     }
     if page.len() - used < LINE {
-        write_out(page, used);
+        write_out(rt, page, used);
         return 0;
     }
     used

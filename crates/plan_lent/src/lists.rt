@@ -60,7 +60,7 @@ fn end(list: usize, room: usize) -> usize {
 }
 
 // A list's part of its room.
-#[derive(Drop)]
+#[derive(Clone, Copy)]
 pub struct Part {
     pub start: usize,
     pub end: usize,

@@ -1,4 +1,5 @@
 // The planner: each plan is judged first, and only a plan that is not refused changes anything.
+#![tactic(auto)]
 
 ghost use Rattle.std.specs.Prelude.{◌≡◌};
 ghost use Rattle.speculative.specs.Drafter.{draft_ragged};
@@ -33,7 +34,7 @@ pub fn plan(
     drafts: &mut [u32],
     commits: &mut [u32],
 ) -> Planned
-    ensures { record { answer = result; storage = storage.new; drafts = drafts.new; commits = commits.new } ≡ planned settings ask (record { positions = positions.entry.now; roofline = roofline.now; depths = depths.now; batches = batches.now; seconds = seconds.now; loaded = loaded.now; bank_commits_of = bank_commits.now; signals = signals.now; bank_curve_of = bank_curve.now; draws = draws.now; indices = indices.now }) storage.old drafts.old commits.old }
+    ensures { record { answer = result; storage = storage.new; drafts = drafts.new; commits = commits.new } ≡ planned settings ask (record { positions = positions.now; roofline = roofline.now; depths = depths.now; batches = batches.now; seconds = seconds.now; loaded = loaded.now; bank_commits_of = bank_commits.now; signals = signals.now; bank_curve_of = bank_curve.now; draws = draws.now; indices = indices.now }) storage.old drafts.old commits.old }
 {
     let of_settings = settings::settings_refusal(settings, positions);
     if 0 < of_settings {

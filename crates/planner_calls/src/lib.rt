@@ -1,4 +1,6 @@
 // The planner's calls, made with the words of a case: one plan, many plans, how long a width takes to settle, and all others.
+#![tactic(auto)]
+
 pub mod held;
 pub mod many;
 pub mod plans;

@@ -8,7 +8,7 @@ use cases::{answers, words};
 use planner::Planned;
 use std::num::wrapping_add_u64;
 
-#[derive(Drop)]
+#[derive(Clone, Copy)]
 struct Outcome {
     refusal: u64,
     accepted: u64,

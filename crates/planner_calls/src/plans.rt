@@ -13,7 +13,7 @@ use std::num::wrapping_add_u64;
 pub const WHOLE: usize = ROOM + 8;
 
 // Who asks, for how many sequences, and when.
-#[derive(Drop)]
+#[derive(Clone, Copy)]
 pub struct Asker {
     pub a: u64,
     pub b: u64,

@@ -44,7 +44,7 @@ fn lend(call: &[u64], set: &[u64], floats: &[f64], wholes: &[u32], widths: &mut 
 }
 
 // The words of an answer before its slots.
-#[derive(Drop)]
+#[derive(Clone, Copy)]
 struct Head {
     refusal: u64,
     became: u64,

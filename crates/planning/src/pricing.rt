@@ -64,7 +64,7 @@ pub fn decide_priced(
     drafts: &mut [u32],
 ) -> Choice
     requires { Priced settings ask past (lent_to_act positions.now roofline.now depths.now batches.now seconds.now loaded.now signals.now bank_curve.now indices.now) drafts.old }
-    ensures { record { drafts = drafts.exit.now; weighed = result.weighed; change = result.change } ≡ decided_priced settings ask (lent_to_act positions.now roofline.now depths.now batches.now seconds.now loaded.now signals.now bank_curve.now indices.now) past }
+    ensures { record { drafts = drafts.new; weighed = result.weighed; change = result.change } ≡ decided_priced settings ask (lent_to_act positions.now roofline.now depths.now batches.now seconds.now loaded.now signals.now bank_curve.now indices.now) past }
 {
     let policy = settings.policy;
     let source = ask.source;

@@ -32,7 +32,7 @@ fn trim_within(
     requires at_most { AtMost depth widths.old × (depth ≤ 64) }
     requires priced { Priced mode curve.now spans.now }
     requires widths_in_bounds { (length widths.old ≤ length rank.old) × (length widths.old ≤ length seq.old) × (length widths.old < length passes.old) }
-    ensures { record { widths = widths.exit.now; weighed = result } ≡ ragged_widths (pass_of kind rates loaded.now) (rule_of mode curve.now (length widths.entry.now)) chains.now depth widths.entry.now }
+    ensures { record { widths = widths.new; weighed = result } ≡ ragged_widths (pass_of kind rates loaded.now) (rule_of mode curve.now (length widths.old)) chains.now depth widths.old }
 {
     let n = widths.len() as u32;
     fill_passes(kind, rates, loaded, n, passes);
@@ -58,7 +58,7 @@ fn trim_small(
     requires fits { Fits chains.now widths.old (length widths.old) × (length widths.old ≤ 16) }
     requires at_most { AtMost depth widths.old × (depth ≤ 64) }
     requires priced { Priced mode curve.now spans.now }
-    ensures { record { widths = widths.exit.now; weighed = result } ≡ ragged_widths (pass_of kind rates loaded.now) (rule_of mode curve.now (length widths.entry.now)) chains.now depth widths.entry.now }
+    ensures { record { widths = widths.new; weighed = result } ≡ ragged_widths (pass_of kind rates loaded.now) (rule_of mode curve.now (length widths.old)) chains.now depth widths.old }
 {
     let mut rank = [0u64; 16];
     let mut seq = [0u64; 16];
@@ -94,7 +94,7 @@ fn trim_few(
     requires fits { Fits chains.now widths.old (length widths.old) × (length widths.old ≤ 64) }
     requires at_most { AtMost depth widths.old × (depth ≤ 64) }
     requires priced { Priced mode curve.now spans.now }
-    ensures { record { widths = widths.exit.now; weighed = result } ≡ ragged_widths (pass_of kind rates loaded.now) (rule_of mode curve.now (length widths.entry.now)) chains.now depth widths.entry.now }
+    ensures { record { widths = widths.new; weighed = result } ≡ ragged_widths (pass_of kind rates loaded.now) (rule_of mode curve.now (length widths.old)) chains.now depth widths.old }
 {
     let mut rank = [0u64; 64];
     let mut seq = [0u64; 64];
@@ -130,7 +130,7 @@ fn trim_many(
     requires fits { Fits chains.now widths.old (length widths.old) }
     requires at_most { AtMost depth widths.old × (depth ≤ 64) }
     requires priced { Priced mode curve.now spans.now }
-    ensures { record { widths = widths.exit.now; weighed = result } ≡ ragged_widths (pass_of kind rates loaded.now) (rule_of mode curve.now (length widths.entry.now)) chains.now depth widths.entry.now }
+    ensures { record { widths = widths.new; weighed = result } ≡ ragged_widths (pass_of kind rates loaded.now) (rule_of mode curve.now (length widths.old)) chains.now depth widths.old }
 {
     let mut rank = [0u64; 1024];
     let mut seq = [0u64; 1024];
@@ -166,7 +166,7 @@ fn trim(
     requires fits { Fits chains.now widths.old (length widths.old) }
     requires at_most { AtMost depth widths.old × (depth ≤ 64) }
     requires priced { Priced mode curve.now spans.now }
-    ensures { record { widths = widths.exit.now; weighed = result } ≡ ragged_widths (pass_of kind rates loaded.now) (rule_of mode curve.now (length widths.entry.now)) chains.now depth widths.entry.now }
+    ensures { record { widths = widths.new; weighed = result } ≡ ragged_widths (pass_of kind rates loaded.now) (rule_of mode curve.now (length widths.old)) chains.now depth widths.old }
 {
     if widths.len() <= 16 {
         trim_small(
@@ -196,7 +196,7 @@ fn trim_default(
     requires fits { Fits chains.now widths.old (length widths.old) }
     requires at_most { AtMost depth widths.old × (depth ≤ 64) }
     requires in_bounds { (1 < length curve.now) × (length curve.now ≤ 65) }
-    ensures { record { widths = widths.exit.now; weighed = result } ≡ ragged_widths (pass_of kind rates loaded.now) (rule_of Default curve.now (length widths.entry.now)) chains.now depth widths.entry.now }
+    ensures { record { widths = widths.new; weighed = result } ≡ ragged_widths (pass_of kind rates loaded.now) (rule_of Default curve.now (length widths.old)) chains.now depth widths.old }
 {
     let spans = [0u8; 1];
     trim(
@@ -225,7 +225,7 @@ fn trim_bridged(
     requires fits { Fits chains.now widths.old (length widths.old) }
     requires at_most { AtMost depth widths.old × (depth ≤ 64) }
     requires in_bounds { (1 < length curve.now) × (length curve.now ≤ 65) }
-    ensures { record { widths = widths.exit.now; weighed = result } ≡ ragged_widths (pass_of kind rates loaded.now) (rule_of Bridged curve.now (length widths.entry.now)) chains.now depth widths.entry.now }
+    ensures { record { widths = widths.new; weighed = result } ≡ ragged_widths (pass_of kind rates loaded.now) (rule_of Bridged curve.now (length widths.old)) chains.now depth widths.old }
 {
     let mut spans = [0u8; 130];
     fill_spans(curve, &mut spans);
@@ -256,7 +256,7 @@ fn trim_by(
     requires fits { Fits chains.now widths.old (length widths.old) }
     requires at_most { AtMost depth widths.old × (depth ≤ 64) }
     requires in_bounds { (1 < length curve.now) × (length curve.now ≤ 65) }
-    ensures { record { widths = widths.exit.now; weighed = result } ≡ ragged_widths (pass_of kind rates loaded.now) (rule_of mode curve.now (length widths.entry.now)) chains.now depth widths.entry.now }
+    ensures { record { widths = widths.new; weighed = result } ≡ ragged_widths (pass_of kind rates loaded.now) (rule_of mode curve.now (length widths.old)) chains.now depth widths.old }
 {
     match mode {
         PriceMode::Default => trim_default(chains, curve, depth, kind, rates, loaded, widths),
@@ -279,7 +279,7 @@ pub fn gated_ragged_draft(
     requires fits { Fits chains.now lengths.now (length lengths.now) }
     requires depth_in_bounds { (depth < length curve.now) × (length curve.now ≤ 65) }
     requires widths_len { length widths.old ≡ length lengths.now }
-    ensures { record { widths = widths.exit.now; weighed = result } ≡ ragged_gate (rule_of mode curve.now (length lengths.now)) chains.now lengths.now depth kind rates loaded.now }
+    ensures { record { widths = widths.new; weighed = result } ≡ ragged_gate (rule_of mode curve.now (length lengths.now)) chains.now lengths.now depth kind rates loaded.now }
 {
     start_widths(lengths, depth, widths);
     if depth == 0 {

@@ -1,5 +1,7 @@
 // The text reader: it holds the lent text and its place. `line_at` and `field_at` do the work, on a plain slice and numbers;
 // the functions over `Reader` are thin ones above them.
+#![tactic(auto)]
+
 ghost use Rattle.std.specs.Prelude.{◌≡◌};
 ghost use Rattle.reader.specs.Reading.{none, line_at, field_at, moved_to};
 
@@ -7,14 +9,14 @@ use blocks::near;
 use text::first_line;
 
 // The lent text, and the place that is read next.
-#[derive(Drop)]
+#[derive(Clone, Copy)]
 pub struct Reader<'a> {
     pub text: &'a [u8],
     pub at: usize,
 }
 
 // What stands at a place of a text: it is `&text[start..stop]`, and what follows it starts at `next`.
-#[derive(Drop)]
+#[derive(Clone, Copy)]
 pub struct Span {
     pub found: bool,
     pub start: usize,

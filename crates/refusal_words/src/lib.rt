@@ -1,4 +1,6 @@
 // The rules' words for each refusal number.
+#![tactic(auto)]
+
 ghost use Rattle.std.specs.Prelude.{cond, ◌≡◌, ltb};
 ghost use Rattle.text.specs.Fields.{fields};
 ghost use Rattle.page.specs.Page.{Added};

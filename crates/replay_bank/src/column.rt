@@ -3,7 +3,7 @@ use acceptance::{Expected, Sample};
 use bank_judge::Answer;
 use cases::sums::Sums;
 
-#[derive(Drop)]
+#[derive(Clone, Copy)]
 pub struct Column {
     pub bytes: [u8; 16],
     pub is_value: bool,
@@ -13,7 +13,7 @@ impl Column {
     // Whether a column of a case is the same.
     pub fn is(self, column: &[u8]) -> bool {
         let bytes = self.bytes;
-        check::same(&bytes, column)
+        text::same(&bytes, column)
     }
 
     // Whether it is what the rules say and, where it is a value, what the Rust says too.
@@ -28,7 +28,7 @@ impl Column {
 
 // Whether a column of the Rust is an answer.
 pub fn is_answer(column: &[u8]) -> bool {
-    !check::same(column, b"----------------")
+    !text::same(column, b"----------------")
 }
 
 // Whether two columns of a case are the sums.

@@ -8,7 +8,7 @@ use crate::{column, words};
 use acceptance::AcceptanceModel;
 
 // What we answer.
-#[derive(Drop)]
+#[derive(Clone, Copy)]
 pub struct Outcome {
     pub expected: Column,
     pub sample: Column,

@@ -1,9 +1,8 @@
 // How the cases of a file went.
-use libc::STDOUT_FILENO;
 use std::num::wrapping_add_u64;
 
 // Who reads a bank, and who refuses it.
-#[derive(Drop)]
+#[derive(Clone, Copy)]
 pub struct Split {
     pub both: u64,
     pub neither: u64,
@@ -12,13 +11,13 @@ pub struct Split {
 }
 
 // How many answers are values, and how many refusals. The Rust refuses nothing here: it is asked where the rules give a value.
-#[derive(Drop)]
+#[derive(Clone, Copy)]
 pub struct Values {
     pub given: u64,
     pub refused: u64,
 }
 
-#[derive(Drop)]
+#[derive(Clone, Copy)]
 pub struct Tally {
     pub banks: u64,
     pub models: u64,
@@ -65,11 +64,11 @@ impl Split {
         self
     }
 
-    fn print(self) {
-        print_count(b"\nbanks read by both ", self.both);
-        print_count(b", refused by both ", self.neither);
-        print_count(b", read by the Rust alone ", self.rust_alone);
-        print_count(b", by us alone ", self.ours_alone);
+    fn print(self, rt: HostRuntime) {
+        print_count(rt, b"\nbanks read by both ", self.both);
+        print_count(rt, b", refused by both ", self.neither);
+        print_count(rt, b", read by the Rust alone ", self.rust_alone);
+        print_count(rt, b", by us alone ", self.ours_alone);
     }
 }
 
@@ -91,9 +90,9 @@ impl Values {
         self
     }
 
-    fn print(self, label: &[u8]) {
-        print_count(label, self.given);
-        print_count(b", refused ", self.refused);
+    fn print(self, rt: HostRuntime, label: &[u8]) {
+        print_count(rt, label, self.given);
+        print_count(rt, b", refused ", self.refused);
     }
 }
 
@@ -146,21 +145,21 @@ impl Tally {
         self
     }
 
-    pub fn print(self) {
+    pub fn print(self, rt: HostRuntime) {
         let asked = wrapping_add_u64(self.models, self.values);
-        print_count(b"run ", wrapping_add_u64(self.banks, asked));
-        print_count(b": banks ", self.banks);
-        print_count(b", models ", self.models);
-        print_count(b", values ", self.values);
-        self.read.print();
-        self.expected.print(b"\nexpected values of both ");
-        self.sampled.print(b"; samples of both ");
-        print_count(b"\ndiffering ", self.differing);
-        io::write_all(STDOUT_FILENO, b"\n");
+        print_count(rt, b"run ", wrapping_add_u64(self.banks, asked));
+        print_count(rt, b": banks ", self.banks);
+        print_count(rt, b", models ", self.models);
+        print_count(rt, b", values ", self.values);
+        self.read.print(rt);
+        self.expected.print(rt, b"\nexpected values of both ");
+        self.sampled.print(rt, b"; samples of both ");
+        print_count(rt, b"\ndiffering ", self.differing);
+        let _ = rt.write_all(b"\n");
     }
 }
 
-fn print_count(label: &[u8], n: u64) {
-    io::write_all(STDOUT_FILENO, label);
-    io::print_decimal(STDOUT_FILENO, n);
+fn print_count(rt: HostRuntime, label: &[u8], n: u64) {
+    let _ = rt.write_all(label);
+    let _ = print!(rt; "{n}");
 }

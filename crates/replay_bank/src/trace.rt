@@ -6,7 +6,7 @@ use crate::column::Column;
 use cases::sums::Sums;
 
 // What we answer, and the sums over the three buffers as we leave them.
-#[derive(Drop)]
+#[derive(Clone, Copy)]
 pub struct Outcome {
     pub answer: Column,
     pub sums: Sums,

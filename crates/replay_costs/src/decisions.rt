@@ -8,8 +8,9 @@ use cases::{answers, lists, words};
 use switch_settings::{MaxStep, SwitchConstraints};
 use switching::{Answer, Collected, Decided, Stall, Switching};
 
-pub fn print(counts: &[u64]) {
+pub fn print(rt: HostRuntime, counts: &[u64]) {
     kinds::print(
+        rt,
         counts,
         b"u switch_refusal\na is_unconstrained\no record_refusal\nk walk_candidates\ni first\nc decide\nl decide_lent\ne collect\nn collect_lent\n",
     );

@@ -7,8 +7,9 @@ use cases::{answers, lists, words};
 use speculative::drafter;
 use speculative::drafter::DraftTime;
 
-pub fn print(counts: &[u64]) {
+pub fn print(rt: HostRuntime, counts: &[u64]) {
     kinds::print(
+        rt,
         counts,
         b"v drafter_refusal\nw rates_refusal\nb is_block\nd seconds\nq pass_seconds\ng ragged_seconds\n",
     );

@@ -4,11 +4,11 @@ ghost use Rattle.std.specs.Prelude.{◌≤◌, length};
 use cases::tally;
 
 // Prints the counts of each kind of a text that was run.
-pub fn print(counts: &[u64], kinds: &[u8]) {
+pub fn print(rt: HostRuntime, counts: &[u64], kinds: &[u8]) {
     let mut rest = kinds;
     while 1 < rest.len() {
         let end = end_of_line(rest);
-        print_kind(counts, &rest[0..end]);
+        print_kind(rt, counts, &rest[0..end]);
         if rest.len() <= end {
             return;
         }
@@ -16,9 +16,9 @@ pub fn print(counts: &[u64], kinds: &[u8]) {
     }
 }
 
-fn print_kind(counts: &[u64], kind: &[u8]) {
+fn print_kind(rt: HostRuntime, counts: &[u64], kind: &[u8]) {
     if 2 <= kind.len() {
-        tally::print_kind(counts, kind[0], &kind[2..]);
+        tally::print_kind(rt, counts, kind[0], &kind[2..]);
     }
 }
 

@@ -7,8 +7,9 @@ use cases::{answers, lists, words};
 use cost_lookup::answer::PriceCurve;
 use step_times::Time;
 
-pub fn print(counts: &[u64]) {
+pub fn print(rt: HostRuntime, counts: &[u64]) {
     kinds::print(
+        rt,
         counts,
         b"j table_refusal\ns step_time\nh has_draft\nr batch_range\nm max_batch\nf step_time_frac\np price_curve\n",
     );

@@ -1,6 +1,8 @@
 // Replays recorded answers: reads the case files that its arguments name, calls for each case the entry point that its kind names with the
 // words that it lends, and compares the words that come out. `cases::line` says how a case is written; the files beside this one say what
 // the words of each kind are.
+#![tactic(auto)]
+
 mod decisions;
 mod drafters;
 mod kinds;
@@ -10,35 +12,31 @@ mod tables;
 ghost use Rattle.std.specs.Prelude.{◌≤◌, length};
 
 use cases::line::Case;
-use libc::STDOUT_FILENO;
+use std::fs::File;
 
 // As many cases as are run of a file.
 const MOST_CASES: u64 = 1099511627776;
 
-fn main() {
-    let mut name = io::buffer();
-    let last = os::arg_count();
-    let mut i = 1usize;
-    while i < last {
-        let n = os::arg(i, &mut name);
-        replay_file(&name[..n]);
-        i += 1;
+fn main(rt: HostRuntime) {
+    let mut name = [0u8; 4096];
+    for i in 1..usize::MAX {
+        let Some(n) = case_files::argument(rt, i, &mut name) else {
+            return;
+        };
+        replay_file(rt, &name[..n]);
     }
 }
 
-fn replay_file(name: &[u8]) {
-    let fd = os::open_read(name);
-    if fd < 0 {
-        os::fail(name);
+fn replay_file(rt: HostRuntime, name: &[u8]) {
+    let Some(mut file) = case_files::open(rt, name) else {
         return;
-    }
-    io::write_all(STDOUT_FILENO, name);
-    replay_in_rooms(fd);
-    libc::close(fd);
+    };
+    let _ = rt.write_all(name);
+    replay_in_rooms(rt, &mut file);
 }
 
 // The rooms that every case uses again: a longest line with its words, the words of an answer, a text, and three columns.
-fn replay_in_rooms(fd: i32) {
+fn replay_in_rooms(rt: HostRuntime, file: &mut File) {
     let mut room = [0u8; 1048576];
     let mut words = [0u64; 65536];
     let mut ours = [0u64; 16384];
@@ -47,7 +45,8 @@ fn replay_in_rooms(fd: i32) {
     let mut second = [0u32; 4160];
     let mut floats = [0.0f64; 4160];
     replay(
-        fd,
+        rt,
+        file,
         &mut room,
         &mut words,
         &mut ours,
@@ -60,7 +59,8 @@ fn replay_in_rooms(fd: i32) {
 
 // The first line says what space the cases are from; the cases follow.
 fn replay(
-    fd: i32,
+    rt: HostRuntime,
+    file: &mut File,
     room: &mut [u8],
     words: &mut [u64],
     ours: &mut [u64],
@@ -70,14 +70,14 @@ fn replay(
     floats: &mut [f64],
 ) {
     let mut counts = [0u64; 78];
-    let mut end = case_files::refill(fd, room, 0, 0);
-    let mut at = case_files::print_line(&room[..end]);
+    let mut end = case_files::refill(file, room, 0, 0);
+    let mut at = case_files::print_line(rt, &room[..end]);
     let mut turns = 0u64;
     while turns < MOST_CASES {
         turns += 1;
-        let case = cases::line::next(fd, room, words, at, end);
+        let case = cases::line::next(file, room, words, at, end);
         if case.kind == 0 {
-            finish(case, &counts);
+            finish(rt, case, &counts);
             return;
         }
         run(case, words, ours, text, first, second, floats, &mut counts);
@@ -87,16 +87,16 @@ fn replay(
 }
 
 // Prints the counts where the file is at its end.
-fn finish(case: Case, counts: &[u64]) {
+fn finish(rt: HostRuntime, case: Case, counts: &[u64]) {
     if 0 < case.end {
-        io::write_all(STDOUT_FILENO, b"what follows is no case\n");
+        let _ = rt.write_all(b"what follows is no case\n");
         return;
     }
-    tables::print(counts);
-    lookups::print(counts);
-    drafters::print(counts);
-    decisions::print(counts);
-    cases::tally::print_sums(counts);
+    tables::print(rt, counts);
+    lookups::print(rt, counts);
+    drafters::print(rt, counts);
+    decisions::print(rt, counts);
+    cases::tally::print_sums(rt, counts);
 }
 
 // One case more.

@@ -9,8 +9,8 @@ const WHOLE_BEFORE: u32 = 0xDEAD_BEEF;
 
 const FLOAT_BEFORE: f64 = 42.0;
 
-pub fn print(counts: &[u64]) {
-    tally::print_kind(counts, b't', b"read");
+pub fn print(rt: HostRuntime, counts: &[u64]) {
+    tally::print_kind(rt, counts, b't', b"read");
 }
 
 // Reads the text into as many slots as the words say.

@@ -20,11 +20,11 @@ const BRIDGED_RAGGED: u8 = b's';
 
 const BRIDGED_BLOCK: u8 = b'w';
 
-pub fn print(counts: &[u64]) {
-    tally::print_kind(counts, b'r', b"gated_ragged_draft");
-    tally::print_kind(counts, BRIDGED_RAGGED, b"gated_ragged_draft bridged");
-    tally::print_kind(counts, b'v', b"gated_block_verify");
-    tally::print_kind(counts, BRIDGED_BLOCK, b"gated_block_verify bridged");
+pub fn print(rt: HostRuntime, counts: &[u64]) {
+    tally::print_kind(rt, counts, b'r', b"gated_ragged_draft");
+    tally::print_kind(rt, counts, BRIDGED_RAGGED, b"gated_ragged_draft bridged");
+    tally::print_kind(rt, counts, b'v', b"gated_block_verify");
+    tally::print_kind(rt, counts, BRIDGED_BLOCK, b"gated_block_verify bridged");
 }
 
 // The letter under which a case of a kind is counted.

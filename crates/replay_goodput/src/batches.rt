@@ -7,9 +7,9 @@ use goodput::depth::Depth;
 use goodput::{depth, expected};
 use plan_words::{drafters, lent_chains};
 
-pub fn print(counts: &[u64]) {
-    tally::print_kind(counts, b'e', b"expected_by_depth");
-    tally::print_kind(counts, b'a', b"aggregate_depth");
+pub fn print(rt: HostRuntime, counts: &[u64]) {
+    tally::print_kind(rt, counts, b'e', b"expected_by_depth");
+    tally::print_kind(rt, counts, b'a', b"aggregate_depth");
 }
 
 pub fn is_batch(kind: u8) -> bool {

@@ -8,9 +8,9 @@ use goodput::pricing::Cost;
 use goodput::{depth, pricing};
 use plan_words::drafters;
 
-pub fn print(counts: &[u64]) {
-    tally::print_kind(counts, b't', b"total_cost");
-    tally::print_kind(counts, b'd', b"best_depth");
+pub fn print(rt: HostRuntime, counts: &[u64]) {
+    tally::print_kind(rt, counts, b't', b"total_cost");
+    tally::print_kind(rt, counts, b'd', b"best_depth");
 }
 
 pub fn is_price(kind: u8) -> bool {

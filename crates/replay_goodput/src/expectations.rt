@@ -10,9 +10,9 @@ use goodput::expected::Answer;
 // What each slot of values holds before a call.
 pub const BEFORE: f64 = 42.0;
 
-pub fn print(counts: &[u64]) {
-    tally::print_kind(counts, b'm', b"model_expected");
-    tally::print_kind(counts, b'b', b"bank_expected");
+pub fn print(rt: HostRuntime, counts: &[u64]) {
+    tally::print_kind(rt, counts, b'm', b"model_expected");
+    tally::print_kind(rt, counts, b'b', b"bank_expected");
 }
 
 pub fn is_expectation(kind: u8) -> bool {

@@ -10,9 +10,9 @@ use goodput::{curve, survival};
 // The bits of a NaN.
 const NAN: u64 = 0x7FF8_0000_0000_0000;
 
-pub fn print(counts: &[u64]) {
-    tally::print_kind(counts, b's', b"survival_chain");
-    tally::print_kind(counts, b'c', b"curve");
+pub fn print(rt: HostRuntime, counts: &[u64]) {
+    tally::print_kind(rt, counts, b's', b"survival_chain");
+    tally::print_kind(rt, counts, b'c', b"curve");
 }
 
 pub fn signal(kind: u8, input: &[u64], ours: &mut [u64]) -> usize

@@ -7,14 +7,13 @@ use cases::words;
 use ledger::answer::Decision;
 use ledger_rows::layout::Step;
 use ledger_words::outcome::{Outcome, of_answer, of_stall, refused};
-use libc::STDOUT_FILENO;
 use std::num::wrapping_add_u64;
 
 // More than a case has of calls and of workers.
 pub const MOST: usize = 1000;
 
 // The two numbers of a worker.
-#[derive(Drop)]
+#[derive(Clone, Copy)]
 pub struct Name {
     pub a: u64,
     pub b: u64,
@@ -151,10 +150,8 @@ fn refusals(ours: &[u64], calls: usize) -> u64 {
     refused
 }
 
-pub fn print(made: &[u64]) {
-    io::write_all(STDOUT_FILENO, b"calls ");
-    io::print_decimal(STDOUT_FILENO, words::at(made, 0));
-    io::write_all(STDOUT_FILENO, b", refused ");
-    io::print_decimal(STDOUT_FILENO, words::at(made, 1));
-    io::write_all(STDOUT_FILENO, b"\n");
+pub fn print(rt: HostRuntime, made: &[u64]) {
+    let calls = words::at(made, 0);
+    let refused = words::at(made, 1);
+    let _ = println!(rt; "calls {calls}, refused {refused}");
 }

@@ -4,7 +4,7 @@ ghost use Rattle.std.specs.Prelude.{◌<◌};
 use decimals::Decimal;
 use numeral::answer::Whole;
 
-#[derive(Drop)]
+#[derive(Clone, Copy)]
 pub struct Column {
     pub bytes: [u8; 16],
     pub is_value: bool,

@@ -1,12 +1,14 @@
 // Replays recorded answers: reads the case files that its arguments name, reads each case's text anew, and compares by bits.
 // A case is a line `KIND ANSWER RUST LENGTH TEXT`: what the rules say of the text and what the Rust answers, 16 bytes each.
+#![tactic(auto)]
+
 mod column;
 mod tally;
 
 ghost use Rattle.std.specs.Prelude.{◌≤◌, length};
 
 use column::Column;
-use libc::STDOUT_FILENO;
+use std::fs::File;
 use tally::Tally;
 
 // A case without its text: the four columns, the spaces behind them and the line's end.
@@ -16,46 +18,42 @@ const COLUMNS: usize = 41;
 const FILLINGS: u64 = 67108864;
 
 // The cases of a room that were run, and where the first that is not whole starts.
-#[derive(Drop)]
+#[derive(Clone, Copy)]
 struct Run {
     tally: Tally,
     end: usize,
 }
 
-fn main() {
-    let mut name = io::buffer();
-    let last = os::arg_count();
-    let mut i = 1usize;
-    while i < last {
-        let n = os::arg(i, &mut name);
-        replay_file(&name[..n]);
-        i += 1;
+fn main(rt: HostRuntime) {
+    let mut name = [0u8; 4096];
+    for i in 1..usize::MAX {
+        let Some(n) = case_files::argument(rt, i, &mut name) else {
+            return;
+        };
+        replay_file(rt, &name[..n]);
     }
 }
 
-fn replay_file(name: &[u8]) {
-    let fd = os::open_read(name);
-    if fd < 0 {
-        os::fail(name);
+fn replay_file(rt: HostRuntime, name: &[u8]) {
+    let Some(mut file) = case_files::open(rt, name) else {
         return;
-    }
-    io::write_all(STDOUT_FILENO, name);
-    let mut room = io::large_buffer();
-    replay(fd, &mut room);
-    libc::close(fd);
+    };
+    let _ = rt.write_all(name);
+    let mut room = [0u8; 65536];
+    replay(rt, &mut file, &mut room);
 }
 
 // The first line says what space the cases are from; the cases follow.
-fn replay(fd: i32, room: &mut [u8]) {
-    let mut end = case_files::refill(fd, room, 0, 0);
-    let mut at = case_files::print_line(&room[..end]);
+fn replay(rt: HostRuntime, file: &mut File, room: &mut [u8]) {
+    let mut end = case_files::refill(file, room, 0, 0);
+    let mut at = case_files::print_line(rt, &room[..end]);
     let mut tally = Tally::new();
     let mut fillings = 0u64;
     while fillings < FILLINGS {
         fillings += 1;
-        end = case_files::refill(fd, room, at, end);
+        end = case_files::refill(file, room, at, end);
         if end == 0 {
-            tally.print();
+            tally.print(rt);
             return;
         }
         let run = cases_in(tally, &room[..end]);
@@ -63,7 +61,7 @@ fn replay(fd: i32, room: &mut [u8]) {
         tally = next;
         at = run.end;
         if at == 0 {
-            io::write_all(STDOUT_FILENO, b"what follows is no case\n");
+            let _ = rt.write_all(b"what follows is no case\n");
             return;
         }
     }

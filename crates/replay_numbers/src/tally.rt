@@ -1,9 +1,8 @@
 // How the cases of a file went.
 use crate::column::Column;
-use libc::STDOUT_FILENO;
 use std::num::wrapping_add_u64;
 
-#[derive(Drop)]
+#[derive(Clone, Copy)]
 pub struct Tally {
     pub decimals: u64,
     pub wholes: u64,
@@ -46,10 +45,10 @@ impl Tally {
     // One comparison more. What we read must be what the rules say and, to the last bit, what the Rust reads.
     pub fn compared(self, ours: Column, answer: &[u8], rust: &[u8]) -> Self {
         let bytes = ours.bytes;
-        let rust_reads = !check::same(rust, b"----------------");
-        let as_ruled = check::same(&bytes, answer);
+        let rust_reads = !text::same(rust, b"----------------");
+        let as_ruled = text::same(&bytes, answer);
         if ours.is_value {
-            let equal = check::same(&bytes, rust);
+            let equal = text::same(&bytes, rust);
             return self.read(rust_reads).judged(as_ruled && equal);
         }
         self.refused(rust_reads).judged(as_ruled)
@@ -81,22 +80,22 @@ impl Tally {
         self
     }
 
-    pub fn print(self) {
+    pub fn print(self, rt: HostRuntime) {
         let numbers = wrapping_add_u64(self.decimals, self.wholes);
-        print_count(b"run ", wrapping_add_u64(numbers, self.seconds));
-        print_count(b": decimals ", self.decimals);
-        print_count(b", whole numbers ", self.wholes);
-        print_count(b", seconds ", self.seconds);
-        print_count(b"\nread by both ", self.both);
-        print_count(b", refused by both ", self.neither);
-        print_count(b", read by the Rust alone ", self.rust_alone);
-        print_count(b", by us alone ", self.ours_alone);
-        print_count(b"\ndiffering ", self.differing);
-        io::write_all(STDOUT_FILENO, b"\n");
+        print_count(rt, b"run ", wrapping_add_u64(numbers, self.seconds));
+        print_count(rt, b": decimals ", self.decimals);
+        print_count(rt, b", whole numbers ", self.wholes);
+        print_count(rt, b", seconds ", self.seconds);
+        print_count(rt, b"\nread by both ", self.both);
+        print_count(rt, b", refused by both ", self.neither);
+        print_count(rt, b", read by the Rust alone ", self.rust_alone);
+        print_count(rt, b", by us alone ", self.ours_alone);
+        print_count(rt, b"\ndiffering ", self.differing);
+        let _ = rt.write_all(b"\n");
     }
 }
 
-fn print_count(label: &[u8], n: u64) {
-    io::write_all(STDOUT_FILENO, label);
-    io::print_decimal(STDOUT_FILENO, n);
+fn print_count(rt: HostRuntime, label: &[u8], n: u64) {
+    let _ = rt.write_all(label);
+    let _ = print!(rt; "{n}");
 }

@@ -1,46 +1,45 @@
 // Replays recorded answers: reads the case files that its arguments name, makes the calls of each case on one storage, and compares what
 // each answers and leaves. `cases::line` says how a case is written; turns.rt, `plan_lent` and `planner_calls` say what its words are.
+#![tactic(auto)]
+
 mod turns;
 
 use cases::line::Case;
 use cases::{tally, words};
-use libc::STDOUT_FILENO;
+use std::fs::File;
 use std::num::wrapping_add_u64;
 
 // As many cases as are run of a file.
 const MOST_CASES: u64 = 1099511627776;
 
-fn main() {
-    let mut name = io::buffer();
-    let last = os::arg_count();
-    let mut i = 1usize;
-    while i < last {
-        let n = os::arg(i, &mut name);
-        replay_file(&name[..n]);
-        i += 1;
+fn main(rt: HostRuntime) {
+    let mut name = [0u8; 4096];
+    for i in 1..usize::MAX {
+        let Some(n) = case_files::argument(rt, i, &mut name) else {
+            return;
+        };
+        replay_file(rt, &name[..n]);
     }
 }
 
-fn replay_file(name: &[u8]) {
-    let fd = os::open_read(name);
-    if fd < 0 {
-        os::fail(name);
+fn replay_file(rt: HostRuntime, name: &[u8]) {
+    let Some(mut file) = case_files::open(rt, name) else {
         return;
-    }
-    io::write_all(STDOUT_FILENO, name);
-    replay_in_rooms(fd);
-    libc::close(fd);
+    };
+    let _ = rt.write_all(name);
+    replay_in_rooms(rt, &mut file);
 }
 
 // The rooms that every case uses again: a longest line with its words, the words of an answer, and the lists that plans are lent.
-fn replay_in_rooms(fd: i32) {
+fn replay_in_rooms(rt: HostRuntime, file: &mut File) {
     let mut room = [0u8; 1048576];
     let mut words = [0u64; 65536];
     let mut ours = [0u64; 16384];
     let mut floats = [0.0f64; 262144];
     let mut wholes = [0u32; 75776];
     replay(
-        fd,
+        rt,
+        file,
         &mut room,
         &mut words,
         &mut ours,
@@ -51,7 +50,8 @@ fn replay_in_rooms(fd: i32) {
 
 // The first line says what space the cases are from; the cases follow.
 fn replay(
-    fd: i32,
+    rt: HostRuntime,
+    file: &mut File,
     room: &mut [u8],
     words: &mut [u64],
     ours: &mut [u64],
@@ -59,14 +59,14 @@ fn replay(
     wholes: &mut [u32],
 ) {
     let mut counts = [0u64; 80];
-    let mut end = case_files::refill(fd, room, 0, 0);
-    let mut at = case_files::print_line(&room[..end]);
+    let mut end = case_files::refill(file, room, 0, 0);
+    let mut at = case_files::print_line(rt, &room[..end]);
     let mut turns = 0u64;
     while turns < MOST_CASES {
         turns += 1;
-        let case = cases::line::next(fd, room, words, at, end);
+        let case = cases::line::next(file, room, words, at, end);
         if case.kind == 0 {
-            finish(case, &counts);
+            finish(rt, case, &counts);
             return;
         }
         run(case, words, ours, floats, wholes, &mut counts);
@@ -76,28 +76,24 @@ fn replay(
 }
 
 // Prints the counts where the file is at its end.
-fn finish(case: Case, counts: &[u64]) {
+fn finish(rt: HostRuntime, case: Case, counts: &[u64]) {
     if 0 < case.end {
-        io::write_all(STDOUT_FILENO, b"what follows is no case\n");
+        let _ = rt.write_all(b"what follows is no case\n");
         return;
     }
     if counts.len() < 80 {
         return;
     }
-    tally::print_kind(counts, b'p', b"whole planners");
-    tally::print_kind(counts, b'd', b"planners with damaged plans");
-    tally::print_kind(counts, b'f', b"full planners");
-    tally::print_kind(counts, b's', b"planners whose widths settle");
-    print_plans(words::at(counts, 78), words::at(counts, 79));
-    tally::print_sums(&counts[0..78]);
+    tally::print_kind(rt, counts, b'p', b"whole planners");
+    tally::print_kind(rt, counts, b'd', b"planners with damaged plans");
+    tally::print_kind(rt, counts, b'f', b"full planners");
+    tally::print_kind(rt, counts, b's', b"planners whose widths settle");
+    print_plans(rt, words::at(counts, 78), words::at(counts, 79));
+    tally::print_sums(rt, &counts[0..78]);
 }
 
-fn print_plans(made: u64, refused: u64) {
-    io::write_all(STDOUT_FILENO, b"plans ");
-    io::print_decimal(STDOUT_FILENO, made);
-    io::write_all(STDOUT_FILENO, b", refused ");
-    io::print_decimal(STDOUT_FILENO, refused);
-    io::write_all(STDOUT_FILENO, b"\n");
+fn print_plans(rt: HostRuntime, made: u64, refused: u64) {
+    let _ = println!(rt; "plans {made}, refused {refused}");
 }
 
 // One case more.

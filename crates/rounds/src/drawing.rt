@@ -5,7 +5,7 @@ ghost use Rattle.rounds.specs.Drawing.{analytic, replayed, drawn_over};
 use acceptance::{AcceptanceModel, Sample};
 
 // How many draws were used, or the number of the refusal.
-#[derive(Drop)]
+#[derive(Clone, Copy)]
 pub enum Drawn {
     Used(usize),
     Refused(u64),

@@ -1,4 +1,6 @@
 // The parts that the lines of the series, of the day figure and of a collect are made of.
+#![tactic(auto)]
+
 ghost use Rattle.page.specs.Page.{Added};
 ghost use Rattle.series_fields.specs.Fields.{column, mean_column, share_column, bits_field, series_sums, float_line};
 

@@ -1,4 +1,6 @@
 // The lines of the series, of the day figure and of what a collect answers.
+#![tactic(auto)]
+
 ghost use Rattle.page.specs.Page.{Added};
 ghost use Rattle.series_lines.specs.Lines.{series_head, series_averages, series_means, series_row, series_bits, day_line, collect_line};
 

@@ -1,4 +1,6 @@
 // What a planner is set to: how deep it may draft, how its drafts are accepted, how it decides, and what drafting and switching cost.
+#![tactic(auto)]
+
 pub mod inner;
 
 ghost use Rattle.std.specs.Prelude.{◌≡◌};
@@ -10,7 +12,7 @@ use switch_settings::SwitchConstraints;
 use verify_prices::PriceMode;
 
 // How the depth of a batch's drafts is decided.
-#[derive(Drop)]
+#[derive(Clone, Copy)]
 pub enum Policy {
     // gamma, whatever it costs
     Fixed,
@@ -23,7 +25,7 @@ pub enum Policy {
 }
 
 // The positions of `PerPosition` stand beside it.
-#[derive(Drop)]
+#[derive(Clone, Copy)]
 pub struct Settings {
     pub gamma: u32,
     pub model: AcceptanceModel,

@@ -30,7 +30,7 @@ fn are_roomy(
     seconds: &[f64],
     room: usize,
 ) -> bool
-    ensures { result ≡ rooms_in settings ask (record { roofline = roofline.entry.now; depths = depths.now; batches = batches.now; seconds = seconds.now }) room }
+    ensures { result ≡ rooms_in settings ask (record { roofline = roofline.now; depths = depths.now; batches = batches.now; seconds = seconds.now }) room }
 {
     let lengths = Lengths {
         storage: 0,
@@ -65,7 +65,7 @@ fn are_valued(
     width: u32,
 ) -> bool
     requires { columns_fit ask.source ask.rows depths.now batches.now seconds.now ≡ true }
-    ensures { result ≡ valued_in settings ask (record { roofline = roofline.entry.now; depths = depths.now; batches = batches.now; seconds = seconds.now }) width }
+    ensures { result ≡ valued_in settings ask (record { roofline = roofline.now; depths = depths.now; batches = batches.now; seconds = seconds.now }) width }
 {
     if MOST_WIDTH < width {
         return false;
@@ -86,7 +86,7 @@ pub fn refusal_of(
     width: u32,
     room: usize,
 ) -> u64
-    ensures { result ≡ settles_refusal settings ask (record { roofline = roofline.entry.now; depths = depths.now; batches = batches.now; seconds = seconds.now }) width room }
+    ensures { result ≡ settles_refusal settings ask (record { roofline = roofline.now; depths = depths.now; batches = batches.now; seconds = seconds.now }) width room }
 {
     let switch = settings.switch;
     let of_switch = switch_settings::switch_refusal(switch);

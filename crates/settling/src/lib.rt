@@ -1,4 +1,6 @@
 // How long until a worker's width settles, by the settings and the prices of its plans.
+#![tactic(auto)]
+
 mod judging;
 mod measuring;
 
@@ -23,7 +25,7 @@ pub fn settles(
     target: u32,
     widths: &mut [u32],
 ) -> Settling
-    ensures { (result, widths.new) ≡ settles settings ask (record { roofline = roofline.entry.now; depths = depths.now; batches = batches.now; seconds = seconds.now }) width target widths.old }
+    ensures { (result, widths.new) ≡ settles settings ask (record { roofline = roofline.now; depths = depths.now; batches = batches.now; seconds = seconds.now }) width target widths.old }
 {
     let refusal = judging::refusal_of(
         settings,

@@ -34,7 +34,7 @@ pub fn candidates(
 ) -> Candidates
     requires tabled { Tabled ask.source ask.rows depths.now batches.now seconds.now }
     requires ask_bound { depth_in settings ask ≤ 64 }
-    ensures { result ≡ candidate_slots (curve_in settings ask (record { roofline = roofline.entry.now; depths = depths.now; batches = batches.now; seconds = seconds.now })) }
+    ensures { result ≡ candidate_slots (curve_in settings ask (record { roofline = roofline.now; depths = depths.now; batches = batches.now; seconds = seconds.now })) }
 {
     let source = ask.source;
     let depth = judging::depth_in(settings, ask) as usize;

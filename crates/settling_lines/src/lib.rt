@@ -1,4 +1,6 @@
 // The lines of how long a width takes to settle: the answer, and the table of the steps.
+#![tactic(auto)]
+
 ghost use Rattle.std.specs.Prelude.{◌≡◌, take};
 ghost use Rattle.page.specs.Page.{Added};
 ghost use Rattle.settling_lines.specs.Lines.{way_fields, within_line, stays_line, answer_line, step_line};

@@ -1,4 +1,6 @@
 // Whole lines of what the program prints, all but those of a series.
+#![tactic(auto)]
+
 ghost use Rattle.page.specs.Page.{Added};
 ghost use Rattle.refusal_words.specs.Words.{entry};
 ghost use Rattle.shown.specs.Lines.{plan_head, plan_lists, plan_empty, refusal_line, clock_back, withdrawn_line, setting_line, bank_line, table_line, expectations, wrong_line, unreadable_line};
@@ -108,7 +110,7 @@ fn expectation(page: &mut [u8], used: usize, expected: u64) -> usize
 
 // A line that cannot be read: which of its fields is wrong, counted from 0, and what was expected there.
 pub fn wrong(page: &mut [u8], used: usize, line: u64, field: u64, expected: u64) -> usize
-    ensures { Added page.old used (wrongLine line field expected) page.new result }
+    ensures { Added page.old used (wrong_line line field expected) page.new result }
 {
     let a = line_parts::headed(page, used, line, b",wrong,field ", field);
     let b = page::append(page, a, b",expected ");
@@ -118,7 +120,7 @@ pub fn wrong(page: &mut [u8], used: usize, line: u64, field: u64, expected: u64)
 
 // A file that cannot be read.
 pub fn unreadable(page: &mut [u8], used: usize, line: u64, name: &[u8]) -> usize
-    ensures { Added page.old used (unreadableLine line name.now) page.new result }
+    ensures { Added page.old used (unreadable_line line name.now) page.new result }
 {
     let a = line_parts::opened(page, used, line, b",unreadable,");
     let b = page::append(page, a, name);

@@ -5,7 +5,7 @@ ghost use Rattle.heap.specs.Greedy.{head_of, frontier};
 ghost use Rattle.slots.specs.Slots.{Fits, flipped, starts, survival, stacks, down_from};
 
 // The rank of a sequence's next slot, if it has one.
-#[derive(Drop)]
+#[derive(Clone, Copy)]
 pub struct Slot {
     pub more: bool,
     pub rank: u64,

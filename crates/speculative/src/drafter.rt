@@ -6,7 +6,7 @@ use crate::inner;
 use draft_inputs::{MOST_COUNT, MOST_GAMMA};
 
 // What the drafter streams at, and the cost table's correction for the length of the contexts.
-#[derive(Drop)]
+#[derive(Clone, Copy)]
 pub struct Rates {
     pub peak: f64,
     pub bw: f64,
@@ -14,7 +14,7 @@ pub struct Rates {
 }
 
 // A fraction of the verify cost for each draft; passes of an autoregressive head; one block of fixed length.
-#[derive(Drop)]
+#[derive(Clone, Copy)]
 pub enum DrafterCost {
     Fraction {
         frac: f64,
@@ -33,7 +33,7 @@ pub enum DrafterCost {
 }
 
 // The seconds of a draft, or the number of the refusal.
-#[derive(Drop)]
+#[derive(Clone, Copy)]
 pub enum DraftTime {
     Seconds(f64),
     Refused(u64),

@@ -1,15 +1,17 @@
 // The settings of switching: how often a width is weighed anew, how far it may go at once, and what a change costs.
+#![tactic(auto)]
+
 ghost use Rattle.std.specs.Prelude.{◌≡◌};
 ghost use Rattle.switch_settings.specs.Switch.{is_unconstrained, switch_refusal};
 
 // How many candidates one decision may walk.
-#[derive(Drop)]
+#[derive(Clone, Copy)]
 pub enum MaxStep {
     Unlimited,
     AtMost(u32),
 }
 
-#[derive(Drop)]
+#[derive(Clone, Copy)]
 pub struct SwitchConstraints {
     // The rounds between two walks; 0 and 1 are every round.
     pub cooldown_rounds: u32,

@@ -6,7 +6,7 @@ use crate::Switching;
 use switch_settings::SwitchConstraints;
 
 // The depths of finite price, ascending: the first `len` of the list.
-#[derive(Drop)]
+#[derive(Clone, Copy)]
 pub struct Candidates {
     pub list: [u32; 65],
     pub len: usize,

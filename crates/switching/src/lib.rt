@@ -1,5 +1,7 @@
 // One worker's switching: the width in force follows the gate's target as the settings allow. The record's small steps take it
 // by value and hand it back; `switching_lent` is for a record that is updated where it stands.
+#![tactic(auto)]
+
 ghost use Rattle.std.specs.Prelude.{◌≡◌};
 ghost use Rattle.switching.specs.Deciding.{walked, collected, record_refusal, all_prices, decide_refusal, first_decision, decision, collection};
 
@@ -8,7 +10,7 @@ use switch_settings::SwitchConstraints;
 pub mod inner;
 
 // The width in force, the rounds since it last walked, and the stall in seconds that is not yet collected.
-#[derive(Drop)]
+#[derive(Clone, Copy)]
 pub struct Switching {
     pub width: u32,
     pub rounds: u32,
@@ -16,28 +18,28 @@ pub struct Switching {
 }
 
 // What a decision answers: the width, or the number of the refusal.
-#[derive(Drop)]
+#[derive(Clone, Copy)]
 pub enum Answer {
     Width(u32),
     Refused(u64),
 }
 
 // The answer, and the record that stands after it.
-#[derive(Drop)]
+#[derive(Clone, Copy)]
 pub struct Decided {
     pub answer: Answer,
     pub kept: Switching,
 }
 
 // What collecting answers: the stall, or the number of the refusal.
-#[derive(Drop)]
+#[derive(Clone, Copy)]
 pub enum Stall {
     Seconds(f64),
     Refused(u64),
 }
 
 // The answer, and the record that stands after it.
-#[derive(Drop)]
+#[derive(Clone, Copy)]
 pub struct Collected {
     pub answer: Stall,
     pub kept: Switching,

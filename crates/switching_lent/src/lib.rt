@@ -1,4 +1,6 @@
 // One worker's switching, of a record that is updated where it stands.
+#![tactic(auto)]
+
 ghost use Rattle.std.specs.Prelude.{◌≡◌};
 ghost use Rattle.switching.specs.Deciding.{decision, collection};
 

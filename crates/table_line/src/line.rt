@@ -10,7 +10,7 @@ use decimals::Decimal;
 use numeral::answer::Whole;
 
 // Nothing, a row, or the number of what is wrong with it.
-#[derive(Drop)]
+#[derive(Clone, Copy)]
 pub enum Line {
     Blank,
     Row { depth: u32, batch: u32, time: f64 },

@@ -1,4 +1,6 @@
 // Lines and fields of a lent text. Each function looks at the front of what it is lent: a caller hands it the rest of its text.
+#![tactic(auto)]
+
 pub mod inner;
 
 ghost use Rattle.std.specs.Prelude.{◌≡◌, ◌-◌, [], length, get_or};
@@ -9,7 +11,7 @@ ghost use Rattle.text.specs.Fields.{fields, same_text};
 use blocks::near;
 
 // Where the first line of a text stops, and where the next one starts.
-#[derive(Drop)]
+#[derive(Clone, Copy)]
 pub struct Line {
     pub stop: usize,
     pub next: usize,

@@ -76,7 +76,7 @@ fn weigh_all(
     requires start_value { sums_of start ≡ (full_draft (listed passes.now) chains.now depth widths.old).sums }
     requires rated { Rated (price_by mode curve.now n) start }
     requires holds { Holds rank.old seq.old first (frontier (stacks down_from widths.old chains.now)) }
-    ensures { record { widths = widths.exit.now; weighed = result } ≡ ragged_widths (listed passes.now) (rule_of mode curve.now n) chains.now depth widths.entry.now }
+    ensures { record { widths = widths.new; weighed = result } ≡ ragged_widths (listed passes.now) (rule_of mode curve.now n) chains.now depth widths.old }
 {
     let mut live = first;
     let mut due = first;
@@ -134,7 +134,7 @@ pub fn trim_from(
     requires widths_in_bounds_2 { (length widths.old ≤ length rank.old) × (length widths.old ≤ length seq.old) }
     requires start_value { sums_of start ≡ (full_draft (listed passes.now) chains.now depth widths.old).sums }
     requires rated { Rated (price_by mode curve.now (length widths.old)) start }
-    ensures { record { widths = widths.exit.now; weighed = result } ≡ ragged_widths (listed passes.now) (rule_of mode curve.now (length widths.entry.now)) chains.now depth widths.entry.now }
+    ensures { record { widths = widths.new; weighed = result } ≡ ragged_widths (listed passes.now) (rule_of mode curve.now (length widths.old)) chains.now depth widths.old }
 {
     let n = widths.len() as u32;
     let live = fill_deepest(chains, widths, rank, seq);

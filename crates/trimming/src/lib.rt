@@ -1,4 +1,6 @@
 // Trimming a lent text.
+#![tactic(auto)]
+
 ghost use Rattle.std.specs.Prelude.{◌≡◌};
 ghost use Rattle.trimming.specs.Trim.{is_blank, front_trimmed, end_trimmed, trimmed};
 

@@ -9,7 +9,7 @@ use verify_prices::bridging::bridged_cost;
 use verify_prices::inner::{is_shut, verify_cost};
 
 // The expected tokens, the verify tokens and the drafter's seconds so far, and the tokens a second that they make.
-#[derive(Drop)]
+#[derive(Clone, Copy)]
 pub struct Tally {
     pub expected: f64,
     pub tokens: f64,
@@ -18,7 +18,7 @@ pub struct Tally {
 }
 
 // A slot is passed over, or the gate stops, or the slot is taken.
-#[derive(Drop)]
+#[derive(Clone, Copy)]
 pub enum Verdict {
     Pass,
     Stop,

@@ -7,7 +7,6 @@ use native.Mathlib.Omega.{arith}
 use lib.ListN.{length, get_or, drop, drop_of_length-le}
 use lib.Seq.{drop-cons}
 use Rattle.verifies.specs.declared.Round.TheVariants.{Committed}
-use Rattle.verifies.specs.declared.inner.Counts.{Counts}
 use Rattle.verifies.specs.Accepted.{accepted_of, total_of, committed_of, counts_of, Shallow}
 
 -- the first k are summed

@@ -5,7 +5,7 @@ ghost use Rattle.verifies.specs.Accepted.{counts_of, Shallow};
 use crate::Round;
 
 // All drafts together, and all of them that their rounds' commits accept.
-#[derive(Drop)]
+#[derive(Clone, Copy)]
 pub struct Counts {
     pub drafts: u64,
     pub committed: u64,

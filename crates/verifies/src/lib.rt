@@ -1,11 +1,13 @@
 // How many drafts a verify accepts, where a round was planned and where none was.
+#![tactic(auto)]
+
 pub mod inner;
 
 ghost use Rattle.std.specs.Prelude.{◌≡◌};
 ghost use Rattle.verifies.specs.Accepted.{accepted_of};
 
 // What a verify's round committed, if one was planned.
-#[derive(Drop)]
+#[derive(Clone, Copy)]
 pub enum Round {
     Committed(u32),
     NotPlanned,

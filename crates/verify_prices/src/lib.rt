@@ -1,10 +1,12 @@
 // The verify price between depths, in both modes. It has no entry points: what it does leans on its caller.
+#![tactic(auto)]
+
 pub mod bridging;
 pub mod inner;
 mod widths;
 
 // How a price between depths is worked out.
-#[derive(Drop)]
+#[derive(Clone, Copy)]
 pub enum PriceMode {
     // from the two depths around it, measured or not: the Rust's
     Default,

@@ -1,4 +1,6 @@
 // The walk through the candidate widths, ascending, toward a target.
+#![tactic(auto)]
+
 pub mod inner;
 
 ghost use Rattle.std.specs.Prelude.{◌≡◌};

@@ -1,5 +1,7 @@
 // The way of a width to its target through the candidates: how many walks it is at most, the width after each, and the rounds that
 // they take. For a caller that has judged the settings and the candidates.
+#![tactic(auto)]
+
 ghost use Rattle.std.specs.Prelude.{◌≡◌, true, false, ◌++◌, ◌<◌, ◌≤◌, length, drop};
 ghost use Rattle.width_way.specs.Way.{distance, is_candidate, stands_still, walks_of, walks_for, pause, arrival, settled};
 ghost use Rattle.width_way.specs.Indices.{Ready, way_from};
@@ -7,7 +9,7 @@ ghost use Rattle.width_way.specs.Indices.{Ready, way_from};
 use switch_settings::{MaxStep, SwitchConstraints};
 
 // What becomes of a width while its target, the candidates and the settings stay the same.
-#[derive(Drop)]
+#[derive(Clone, Copy)]
 pub enum Settling {
     // It is the target after at most so many rounds, by so many walks.
     Within { rounds: u64, walks: u32 },

@@ -1,0 +1,13 @@
+-- `bank::filling::decimal_value` meets its contract: in each arm the answer's case is known. Assumes nothing.
+use mathlib.Core.Path.{sym, ap}
+use lib.Ieee.{of_bits}
+use Rattle.bank_fill.specs.Fill.{decimal_value}
+use Rattle.bank_fill.proofs.inner.decimal_value.Goals as goal
+
+pub returns-in-Malformed : goal.returns-in-Malformed
+unfolding of_bits
+returns-in-Malformed c = ap decimal_value (sym c.in-Malformed.is)
+
+pub returns-in-TooLong : goal.returns-in-TooLong
+unfolding of_bits
+returns-in-TooLong c = ap decimal_value (sym c.in-TooLong.is)

@@ -1,0 +1,13 @@
+-- `inner::add_fours` meets its contract. The invariant: the sums of what is left, from the sums so far on, are those of the whole. Assumes nothing.
+use mathlib.Core.Path.{◌≡◌}
+use Prim.Native.Nat.{◌-◌, ◌*◌, ◌≤◌}
+use lib.ListN.{length, drop}
+use Rattle.chains.specs.Expected.{sums_with}
+use Rattle.chains.proofs.inner.add_fours.Given as goal
+
+abbrev pub invariant-loop-k : goal.invariant-loop-k
+invariant-loop-k l =
+    (l.k ≤ length l.lengths) × ((length l.sums ≡ 65) × (sums_with l.gamma (drop l.k l.lengths) (drop (l.k * 64) l.chains) l.sums ≡ sums_with l.gamma l.lengths l.chains l.initial.sums))
+
+abbrev pub decreases-loop-k : goal.decreases-loop-k
+decreases-loop-k l = length l.lengths - l.k

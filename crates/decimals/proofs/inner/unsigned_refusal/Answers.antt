@@ -1,0 +1,56 @@
+-- `numeral::unsigned_refusal` meets its contract: each way out is a law of `Outcomes` for the digits before the point. Assumes nothing.
+use mathlib.Core.Path.{ap, ◌∙◌}
+use mathlib.Core.Bool.{false}
+use Prim.Native.Nat.{◌+◌, ◌-◌}
+use native.Mathlib.Omega.{arith}
+use lib.ListN.{length, take, drop}
+use Rattle.laws.proofs.Lists.{part}
+use Rattle.digits.specs.Digits.{is_digit}
+use Rattle.decimals.specs.Decimals.{decimal_refusal}
+use Rattle.digits.proofs.Bytes.{count_le}
+use Rattle.decimals.proofs.Outcomes.{no_point, other_than_point, parted, other_behind, digits_before, digits_all, digits_none}
+use Rattle.decimals.proofs.inner.unsigned_refusal.Goals as goal
+
+pub slice_bounds-digits_refusal-count : goal.slice_bounds-digits_refusal-count
+slice_bounds-digits_refusal-count c = omega (arith, count_le is_digit c.args.text.now, c.digit_count-before.ensures)
+
+pub slice_bounds-digits_refusal-start : goal.slice_bounds-digits_refusal-start
+slice_bounds-digits_refusal-start c = omega (arith, count_le is_digit c.args.text.now, c.digit_count-before.ensures)
+
+pub digits_refusal-requires : goal.digits_refusal-requires
+digits_refusal-requires c =
+    let t = c.args.text.now in
+    let k = c.digit_count-before in
+    (digits_all t k.result k.ensures c.if-text-before.true, digits_none t _ k.result c.if-text-before.true (part k.result t))
+
+pub returns-then-text-before : goal.returns-then-text-before
+returns-then-text-before c =
+    let t = c.args.text.now in
+    let k = c.digit_count-before in
+    c.digits_refusal.ensures ∙ ap decimal_refusal (no_point false t k.result k.ensures _ c.if-text-before.true (part k.result t))
+
+pub returns-then-text-before-ne46 : goal.returns-then-text-before-ne46
+returns-then-text-before-ne46 c =
+    let t = c.args.text.now in
+    let k = c.digit_count-before in
+    ap decimal_refusal (other_than_point false t k.result k.ensures c.if-text-before.false c.if-text-before-ne46.true)
+
+pub returns-then-digit_count-fraction : goal.returns-then-digit_count-fraction
+returns-then-digit_count-fraction c =
+    let t = c.args.text.now in
+    let k = c.digit_count-before in
+    let j = c.digit_count in
+    ap decimal_refusal (other_behind false t k.result k.ensures _ c.if-text-before.false c.if-text-before-ne46.false (part (k.result + 1) t) j.result j.ensures c.if-digit_count-fraction.true)
+
+pub digits_refusal-requires-2 : goal.digits_refusal-requires-2
+digits_refusal-requires-2 c =
+    let t = c.args.text.now in
+    let k = c.digit_count-before in
+    let j = c.digit_count in
+    (digits_before t k.result k.ensures, digits_all (take (length t - (k.result + 1)) (drop (k.result + 1) t)) j.result j.ensures c.if-digit_count-fraction.false)
+
+pub returns : goal.returns
+returns c =
+    let t = c.args.text.now in
+    let k = c.digit_count-before in
+    c.digits_refusal-2.ensures ∙ ap decimal_refusal (parted false t k.result k.ensures _ c.if-text-before.false c.if-text-before-ne46.false (part (k.result + 1) t))

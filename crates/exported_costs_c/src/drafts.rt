@@ -1,0 +1,115 @@
+// What producing the drafts costs. A drafter crosses as the number of its kind, its two sizes and its three counts; rates as three floats.
+ghost use Rattle.std.specs.Prelude.{◌≡◌};
+ghost use Rattle.speculative.specs.Drafter.{absent, is_block, drafter_refusal, rates_refusal, draft_seconds, draft_pass, draft_ragged};
+ghost use Rattle.exported_costs.specs.Asked.{drafter_of, rates_of};
+ghost use Rattle.exported_costs.specs.Answers.{seconds_told, drafter_told};
+
+use exported::Told;
+
+// `first` is the number of its kind, and `second` its first size.
+#[unsafe(no_mangle)]
+pub extern "C" fn speculative_no_drafter() -> Told
+    ensures { result ≡ drafter_told absent }
+{
+    exported_costs::drafts::speculative_no_drafter()
+}
+
+// Whether the head drafts one block for all sequences.
+#[unsafe(no_mangle)]
+pub extern "C" fn speculative_is_block(kind: u32, p: f64, q: f64, x: u32, y: u32, z: u32) -> bool
+    ensures { result ≡ is_block (drafter_of kind p q x y z) }
+{
+    exported_costs::drafts::speculative_is_block(kind, p, q, x, y, z)
+}
+
+// The number of the refusal, 0 for none.
+#[unsafe(no_mangle)]
+pub extern "C" fn speculative_drafter_refusal(
+    kind: u32,
+    p: f64,
+    q: f64,
+    x: u32,
+    y: u32,
+    z: u32,
+) -> u64
+    ensures { result ≡ drafter_refusal (drafter_of kind p q x y z) }
+{
+    exported_costs::drafts::speculative_drafter_refusal(kind, p, q, x, y, z)
+}
+
+// The number of the refusal, 0 for none.
+#[unsafe(no_mangle)]
+pub extern "C" fn speculative_rates_refusal(peak: f64, bw: f64, kv_delta: f64) -> u64
+    ensures { result ≡ rates_refusal (rates_of peak bw kv_delta) }
+{
+    exported_costs::drafts::speculative_rates_refusal(peak, bw, kv_delta)
+}
+
+// `first` is the seconds.
+#[unsafe(no_mangle)]
+pub extern "C" fn speculative_seconds(
+    kind: u32,
+    p: f64,
+    q: f64,
+    x: u32,
+    y: u32,
+    z: u32,
+    gamma: u32,
+    batch: u32,
+    peak: f64,
+    bw: f64,
+    kv_delta: f64,
+    verify_c: f64,
+    loaded: &[f64],
+) -> Told
+    ensures { result ≡ seconds_told (draft_seconds (drafter_of kind p q x y z) gamma batch (rates_of peak bw kv_delta) verify_c loaded.now) }
+{
+    exported_costs::drafts::speculative_seconds(
+        kind, p, q, x, y, z, gamma, batch, peak, bw, kv_delta, verify_c, loaded,
+    )
+}
+
+// `first` is the seconds.
+#[unsafe(no_mangle)]
+pub extern "C" fn speculative_pass_seconds(
+    kind: u32,
+    p: f64,
+    q: f64,
+    x: u32,
+    y: u32,
+    z: u32,
+    batch: u32,
+    peak: f64,
+    bw: f64,
+    kv_delta: f64,
+    loaded: &[f64],
+) -> Told
+    ensures { result ≡ seconds_told (draft_pass (drafter_of kind p q x y z) batch (rates_of peak bw kv_delta) loaded.now) }
+{
+    exported_costs::drafts::speculative_pass_seconds(
+        kind, p, q, x, y, z, batch, peak, bw, kv_delta, loaded,
+    )
+}
+
+// `first` is the seconds.
+#[unsafe(no_mangle)]
+pub extern "C" fn speculative_ragged_seconds(
+    kind: u32,
+    p: f64,
+    q: f64,
+    x: u32,
+    y: u32,
+    z: u32,
+    widths: &[u32],
+    peak: f64,
+    bw: f64,
+    kv_delta: f64,
+    verify_c: f64,
+    loaded: &[f64],
+) -> Told
+    ensures { result ≡ seconds_told (draft_ragged (drafter_of kind p q x y z) widths.now (rates_of peak bw kv_delta) verify_c loaded.now) }
+{
+    exported_costs::drafts::speculative_ragged_seconds(
+        kind, p, q, x, y, z, widths, peak, bw, kv_delta, verify_c, loaded,
+    )
+}
