@@ -1,0 +1,17 @@
+-- The rooms are lent whole.
+use Rattle.std.proofs.Common.{ℕ, sym}
+use Rattle.std.proofs.lemmas.List.{length-replicate}
+use lib.Ieee.{binary64, of_bits}
+use Rattle.day.proofs.in_large_rooms.Goals as goal
+
+pub slice_bounds-argument-end : goal.slice_bounds-argument-end
+slice_bounds-argument-end c = sym (length-replicate {A = ℕ} 33554432 0)
+
+pub slice_bounds-argument-end-2 : goal.slice_bounds-argument-end-2
+slice_bounds-argument-end-2 c = sym (length-replicate {A = ℕ} 134217728 0)
+
+pub slice_bounds-argument-end-3 : goal.slice_bounds-argument-end-3
+slice_bounds-argument-end-3 c = sym (length-replicate 4265856 (of_bits binary64 0))
+
+pub slice_bounds-argument-end-4 : goal.slice_bounds-argument-end-4
+slice_bounds-argument-end-4 c = sym (length-replicate {A = ℕ} 75776 0)
