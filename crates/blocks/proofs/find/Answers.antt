@@ -10,7 +10,7 @@ overflow_add-result c = omega (arith, c.find.ensures, find_le c.args.byte c.loop
 pub loop-rest-preserved : goal.loop-rest-preserved
 loop-rest-preserved c =
     let r = c.loop-rest.rest.now in
-    (omega (arith, part_length 64 r), find_further c.args.s.now r c.loop-rest-test.true c.args.byte c.loop-rest.passed c.count_in.result c.loop-rest.invariant.1 c.count_in.ensures c.if-count_in-ne0.false)
+    (omega (arith, part_length 64 r), find_further c.args.s.now r c.loop-rest-test.true c.args.byte c.loop-rest.passed c.count_in.result c.loop-rest.invariant.1 c.count_in.ensures (omega arith))
 
 pub overflow_add-result-2 : goal.overflow_add-result-2
 overflow_add-result-2 c = omega (arith, c.find-2.ensures, find_le c.args.byte c.loop-rest.rest.now)

@@ -48,8 +48,8 @@ returns-clause-signals c = let a = c.args in
     let rows = rows_are s c.first_line-line.result.stop c.first_line-line.result.next c.first_line-line.ensures.stop c.first_line-line.ensures.next p.header in
     let width : w.result ≡ length (fields (get_or (lines s) 0 [])) = w.ensures ∙ ap (λ (l : List ℕ). length (fields l)) (sym header) in
     let commits : c.fill_rows.new.commits ≡ sets a.commits.now 0 (commits_of (drop 1 (lines s))) = c.fill_rows.ensures.commits ∙ ap (λ (r : List (List ℕ)). sets a.commits.now 0 (commits_of r)) (sym rows) in c.fill_rows.ensures.signals
-            ∙ ap (λ (r : List (List ℕ)). sets a.signals.now 0 (signals_of (w.result - a.depth) r)) (sym rows)
-            ∙ ap (λ (n : ℕ). sets a.signals.now 0 (signals_of (n - a.depth) (drop 1 (lines s)))) width
+    ∙ ap (λ (r : List (List ℕ)). sets a.signals.now 0 (signals_of (w.result - a.depth) r)) (sym rows)
+    ∙ ap (λ (n : ℕ). sets a.signals.now 0 (signals_of (n - a.depth) (drop 1 (lines s)))) width
 
 pub returns-clause-curve : goal.returns-clause-curve
 returns-clause-curve c = let a = c.args in
@@ -60,8 +60,8 @@ returns-clause-curve c = let a = c.args in
     let rows = rows_are s c.first_line-line.result.stop c.first_line-line.result.next c.first_line-line.ensures.stop c.first_line-line.ensures.next p.header in
     let width : w.result ≡ length (fields (get_or (lines s) 0 [])) = w.ensures ∙ ap (λ (l : List ℕ). length (fields l)) (sym header) in
     let commits : c.fill_rows.new.commits ≡ sets a.commits.now 0 (commits_of (drop 1 (lines s))) = c.fill_rows.ensures.commits ∙ ap (λ (r : List (List ℕ)). sets a.commits.now 0 (commits_of r)) (sym rows) in c.fill_curve.ensures
-            ∙ ap (λ (l : List ℕ). sets a.curve.now 0 (curve_from 0 (suc a.depth) l))
-            (commits_kept (drop 1 (lines s)) a.commits.now c.fill_rows.new.commits a.rounds commits p.all p.commits_fit)
+    ∙ ap (λ (l : List ℕ). sets a.curve.now 0 (curve_from 0 (suc a.depth) l))
+    (commits_kept (drop 1 (lines s)) a.commits.now c.fill_rows.new.commits a.rounds commits p.all p.commits_fit)
 
 pub slice_bounds-fill_curve-end-2 : goal.slice_bounds-fill_curve-end-2
 slice_bounds-fill_curve-end-2 c =

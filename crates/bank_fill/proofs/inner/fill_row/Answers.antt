@@ -28,8 +28,8 @@ first_decimal (suc k) k' f fs v h e d = absurd (not-suc-le-zero h)
 comma : (c : Joined-left-gt0) → c.if-left-gt0.comma ≡ find 44 c.loop-left.rest.now
 comma c =
     elim c.if-left-gt0.branch [
-      then-left-gt0 w ↦ w.comma-is ∙ w.find-comma.ensures
-    | else-left-gt0 w ↦ w.comma-is ∙ w.decimal-front.ensures.length ∙ field_found c.loop-left.rest.now
+      | then-left-gt0 w ↦ w.comma-is ∙ w.find-comma.ensures
+      | else-left-gt0 w ↦ w.comma-is ∙ w.decimal-front.ensures.length ∙ field_found c.loop-left.rest.now
     ]
 
 passed : (c : Joined-left-gt0) (fs : List (List ℕ)) → fields c.loop-left.rest.now ≡ take c.if-left-gt0.comma c.loop-left.rest.now ∷ fs
@@ -44,16 +44,16 @@ passed c fs e =
     subst (λ (r : List (List ℕ)). Storing all a.signals.now a.from l.signals l.at (decimals_of (drop l.left r))) e l.invariant.1 in
     let left = decimals_of (drop c.if-left-gt0.left fs) in
     elim c.if-left-gt0.branch [
-      then-left-gt0 w ↦
-        storing_same all a.signals.now a.from l.signals l.at c.if-left-gt0.signals c.if-left-gt0.at (decimals_of (drop l.left (f ∷ fs))) left w.signals-is w.at-is
-            (ap decimals_of (drop_more l.left f fs w.if-left-gt0.true ∙ ap (λ (k : ℕ). drop k fs) (sym w.left-is)))
-            opened
-    | else-left-gt0 w ↦
-        storing_next all a.signals.now a.from l.signals l.at c.if-left-gt0.signals c.if-left-gt0.at w.decimal_value.result left (w.signals-is ∙ w.put_decimal-at.ensures.stored) (w.at-is ∙ w.put_decimal-at.ensures.next)
-            (subst (λ (r : List Float). Storing all a.signals.now a.from l.signals l.at r)
-            (first_decimal l.left c.if-left-gt0.left f fs w.decimal_value.result w.if-left-gt0.false w.left-is
-            (w.decimal_value.ensures ∙ ap decimal_value (w.decimal-front.ensures.decimal ∙ ap (λ (k : ℕ). decimal_of (take k s)) (sym (w.comma-is ∙ w.decimal-front.ensures.length)))))
-            opened)
+      | then-left-gt0 w ↦
+          storing_same all a.signals.now a.from l.signals l.at c.if-left-gt0.signals c.if-left-gt0.at (decimals_of (drop l.left (f ∷ fs))) left w.signals-is w.at-is
+          (ap decimals_of (drop_more l.left f fs w.if-left-gt0.true ∙ ap (λ (k : ℕ). drop k fs) (sym w.left-is)))
+          opened
+      | else-left-gt0 w ↦
+          storing_next all a.signals.now a.from l.signals l.at c.if-left-gt0.signals c.if-left-gt0.at w.decimal_value.result left (w.signals-is ∙ w.put_decimal-at.ensures.stored) (w.at-is ∙ w.put_decimal-at.ensures.next)
+          (subst (λ (r : List Float). Storing all a.signals.now a.from l.signals l.at r)
+          (first_decimal l.left c.if-left-gt0.left f fs w.decimal_value.result w.if-left-gt0.false w.left-is
+          (w.decimal_value.ensures ∙ ap decimal_value (w.decimal-front.ensures.decimal ∙ ap (λ (k : ℕ). decimal_of (take k s)) (sym (w.comma-is ∙ w.decimal-front.ensures.length)))))
+          opened)
     ]
 
 pub loop-left-init : goal.loop-left-init

@@ -35,13 +35,13 @@ pub returns-clause-commits : goal.returns-clause-commits
 returns-clause-commits c = let a = c.args in
     let l = c.loop-rest in
     let e : lines l.rest.now ≡ [] = lines_none l.rest.now c.loop-rest-test.false in (storing_ends (commits_of (lines a.rows.now)) a.commits.now 0 l.commits l.round
-          (subst (Storing (commits_of (lines a.rows.now)) a.commits.now 0 l.commits l.round) (ap commits_of e) l.invariant.0)).1
+    (subst (Storing (commits_of (lines a.rows.now)) a.commits.now 0 l.commits l.round) (ap commits_of e) l.invariant.0)).1
 
 pub returns-clause-signals : goal.returns-clause-signals
 returns-clause-signals c = let a = c.args in
     let l = c.loop-rest in
     let e : lines l.rest.now ≡ [] = lines_none l.rest.now c.loop-rest-test.false in (storing_ends (signals_of a.skip (lines a.rows.now)) a.signals.now 0 l.signals l.at
-          (subst (Storing (signals_of a.skip (lines a.rows.now)) a.signals.now 0 l.signals l.at) (ap (signals_of a.skip) e) l.invariant.1)).1
+    (subst (Storing (signals_of a.skip (lines a.rows.now)) a.signals.now 0 l.signals l.at) (ap (signals_of a.skip) e) l.invariant.1)).1
 
 pub loop-rest-preserved : goal.loop-rest-preserved
 loop-rest-preserved c =

@@ -23,10 +23,10 @@ heapify-requires c =
 
 pub weigh_all-requires-clause-n_in_bounds : goal.weigh_all-requires-clause-n_in_bounds
 weigh_all-requires-clause-n_in_bounds c = let room = c.requires.lengths_in_bounds in (
-            omega (arith, c.heapify.auto.rank, c.fill-live.auto.rank, room),
-            omega (arith, c.heapify.auto.seq, c.fill-live.auto.seq, room),
-            c.fill-live.ensures.0,
-          )
+  omega (arith, c.heapify.auto.rank, c.fill-live.auto.rank, room),
+  omega (arith, c.heapify.auto.seq, c.fill-live.auto.seq, room),
+  c.fill-live.ensures.0,
+)
 
 pub weigh_all-requires-clause-fits : goal.weigh_all-requires-clause-fits
 weigh_all-requires-clause-fits c = let room = c.requires.lengths_in_bounds in c.requires.fits

@@ -39,5 +39,5 @@ returns-then-not-is_ascii-clause-answer c = let a = c.args in
 pub returns-clause-answer : goal.returns-clause-answer
 returns-clause-answer c = let s = c.args.text.now in
     let t = c.is_ascii in c.judge_lines.ensures.answer
-          ∙ ap (judge_lines c.args.room) (sym (line_first s c.first_line-first.result.stop c.first_line-first.result.next c.first_line-first.ensures.stop c.first_line-first.ensures.next (pos_of_ne-zero c.if-text-eq0.false)))
-          ∙ sym (text_judged c.args.room s (sym t.ensures ∙ c.if-not-is_ascii.false))
+    ∙ ap (judge_lines c.args.room) (sym (line_first s c.first_line-first.result.stop c.first_line-first.result.next c.first_line-first.ensures.stop c.first_line-first.ensures.next (pos_of_ne-zero c.if-text-eq0.false)))
+    ∙ sym (text_judged c.args.room s (sym t.ensures ∙ c.if-not-is_ascii.false))

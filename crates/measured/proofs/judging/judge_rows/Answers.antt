@@ -117,4 +117,4 @@ returns-clause-answer c = let l = c.loop-rest in
 pub returns-clause-rows : goal.returns-clause-rows
 returns-clause-rows c = let l = c.loop-rest in
     let a = c.args in λ n e. put_all (rows_of (lines a.text.now)) a.depths.now a.batches.now a.seconds.now l.depths l.batches l.seconds
-          (all_done (rows_of (lines a.text.now)) l.rows a.depths.now a.batches.now a.seconds.now l.depths l.batches l.seconds l.invariant.1.1.1.0 (l.invariant.1.1.1.1 ∙ of_none (lines l.rest.now) (lines_none l.rest.now c.loop-rest-test.false)))
+    (all_done (rows_of (lines a.text.now)) l.rows a.depths.now a.batches.now a.seconds.now l.depths l.batches l.seconds l.invariant.1.1.1.0 (l.invariant.1.1.1.1 ∙ of_none (lines l.rest.now) (lines_none l.rest.now c.loop-rest-test.false)))

@@ -1,0 +1,6 @@
+-- `goodput_bank_expected` meets its contract: the values are as the call left them. Assumes nothing.
+use Rattle.exported_batches.proofs.Handed.{values_handed}
+use Rattle.exported_batches.proofs.chances.goodput_bank_expected.Goals as goal
+
+pub returns : goal.returns
+returns c = values_handed _ _ _ _ c.of_answer.ensures c.bank_expected-answer.ensures

@@ -1,0 +1,12 @@
+-- `answers::of_value` meets its contract: each arm has its case. Assumes nothing.
+use mathlib.Core.Path.{sym, ap, ◌∙◌}
+use Rattle.exported_costs.specs.Answers.{value_told}
+use Rattle.exported_costs.proofs.answers.of_value.Goals as goal
+
+pub returns-in-Value : goal.returns-in-Value
+unfolding value_told
+returns-in-Value c = c.tell_float.ensures ∙ ap value_told (sym c.in-Value.is)
+
+pub returns-in-Refused : goal.returns-in-Refused
+unfolding value_told
+returns-in-Refused c = c.refused.ensures ∙ ap value_told (sym c.in-Refused.is)
