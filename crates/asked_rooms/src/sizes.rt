@@ -44,6 +44,7 @@ fn table_fits(source: Source, rows: usize) -> bool
 }
 
 // 11 where gamma, the number of sequences, a trace's bank or a table is too large; else 0.
+#[tactic(auto, using(crate::proofs::Ways::gamma_large))]
 pub fn sizes_refusal(
     model: AcceptanceModel,
     gamma: u32,

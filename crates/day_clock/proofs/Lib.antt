@@ -1,2 +1,2 @@
 mod Examples
-mod Ways
+pub mod Ways

@@ -40,6 +40,7 @@ pub fn changed(clock: &mut [u64])
 }
 
 // The newest change was withdrawn.
+#[tactic(auto, using(crate::proofs::Ways::back_done, crate::proofs::Ways::back_none))]
 pub fn taken_back(clock: &mut [u64])
     ensures { clock.new ≡ taken_back_of clock.old }
 {

@@ -58,6 +58,7 @@ pub struct HostAsk {
 }
 
 // Whether each number of a case stands for one.
+#[tactic(auto, unfolding(crate::specs::Asked::settings_fit))]
 pub fn settings_fit(s: HostSettings) -> bool
     ensures { result ≡ settings_fit s }
 {
@@ -79,6 +80,7 @@ pub fn settings_fit(s: HostSettings) -> bool
     true
 }
 
+#[tactic(auto, unfolding(crate::specs::Asked::ask_fits))]
 pub fn ask_fits(ask: HostAsk) -> bool
     ensures { result ≡ ask_fits ask }
 {
@@ -128,6 +130,7 @@ fn step_of(steps: u32, max_step: u32) -> MaxStep
 }
 
 // 0 a fraction, 1 an autoregressive head, 2 a block head.
+#[tactic(auto, unfolding(crate::specs::Asked::drafter_of))]
 pub fn drafter_of(s: HostSettings) -> DrafterCost
     ensures { result ≡ drafter_of s }
 {

@@ -144,6 +144,7 @@ pub fn collect(storage: &mut [u64], a: u64, b: u64) -> Stall
 }
 
 // The newest change that stands is taken back, if a withdrawal is available.
+#[tactic(auto, unfolding(crate::specs::Calls::withdrawn))]
 pub fn withdraw(storage: &mut [u64]) -> Answer
     ensures { (result, storage.new) ≡ withdrawn storage.old }
 {

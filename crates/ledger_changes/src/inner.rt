@@ -102,6 +102,7 @@ pub fn pop(words: &mut [u64], before: usize)
 }
 
 // The newest change's step taken back, if it has one.
+#[tactic(auto, unfolding(crate::specs::Changes::step_back))]
 pub fn step_back(words: &mut [u64])
     requires { room ≤ length words.old }
     ensures { words.new ≡ step_back words.old }

@@ -162,6 +162,7 @@ pub fn add_step(words: &mut [u64], found: Place, step: Step)
 }
 
 // Row `row` of `rows`, of the step's second, with that step less, and gone with its last.
+#[tactic(auto, unfolding(crate::specs::Seconds::second_lowered))]
 fn lower(words: &mut [u64], row: usize, rows: usize, step: Step)
     requires { (row < rows) × (rows ≤ seconds_most) × (room ≤ length words.old) }
     ensures { words.new ≡ second_lowered words.old row rows step }

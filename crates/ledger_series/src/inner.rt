@@ -98,6 +98,7 @@ fn total(words: &[u64], rows: usize) -> f64
 }
 
 // Their sum divided once by how many there are; 0.0 for none.
+#[tactic(auto, using(crate::proofs::Means::figure_none, crate::proofs::Means::figure_some))]
 pub fn figure(words: &[u64], rows: usize) -> f64
     requires { (rows ≤ seconds_most) × (room ≤ length words.now) }
     ensures { result ≡ figure_of (up_to (mean_of_drafts words.now) rows) }

@@ -16,6 +16,7 @@ pub use verifies::Round;
 
 // A plan. `storage` is the planner's own; the drafts and the commits of the sequences are written to the fronts of `drafts`
 // and `commits`. Refused with the first of 12, 11, 16, 15, 13 or 14, 15 of the signals, 17, 18 and 19, and then nothing is written.
+#[tactic(auto, using(judged_plans::proofs::Ways::none_planned))]
 pub fn plan(
     settings: Settings,
     ask: Ask,

@@ -65,6 +65,7 @@ fn held_refusal(settings: Settings, ask: Ask, storage: &[u64]) -> u64
 }
 
 // 15 of the signals, then 17, 18 or 19; else 0.
+#[tactic(auto, using(refusals::proofs::First::goes_first, refusals::proofs::First::goes_next))]
 pub fn late_refusal(
     settings: Settings,
     ask: Ask,

@@ -37,6 +37,7 @@ pub struct Settings {
 }
 
 // 12 where the model or its positions, the drafter or the switch settings are out of range, used or not; else 0.
+#[tactic(auto, using(refusals::proofs::First::goes_first, refusals::proofs::First::goes_next), unfolding(crate::specs::Settings::settings_refusal))]
 pub fn settings_refusal(settings: Settings, positions: &[f64]) -> u64
     ensures { result ≡ settings_refusal settings positions.now }
 {
