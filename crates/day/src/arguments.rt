@@ -24,7 +24,7 @@ pub fn asks_for_status(rt: HostRuntime) -> bool {
 
 // A program has no exit status of its own: it writes a digit to descriptor 3, which the script that starts it passes on.
 pub fn tell_status(rt: HostRuntime, status: u64) {
-    if let Ok(mut told) = OpenOptions::new().write(true).open(&rt, "/dev/fd/3") {
+    if let Ok(mut told) = OpenOptions::new().append(true).open(&rt, "/dev/fd/3") {
         let _ = write!(told, "{status}");
     }
 }
