@@ -2,7 +2,7 @@
 // words that it lends, and compares the words that come out. `cases::line` says how a case is written.
 #![tactic(auto)]
 
-mod gating;
+mod gate_cases;
 
 ghost use Rattle.std.specs.Prelude.{◌≤◌, length};
 
@@ -71,7 +71,7 @@ fn finish(rt: HostRuntime, case: Case, counts: &[u64]) {
         let _ = rt.write_all(b"what follows is no case\n");
         return;
     }
-    gating::print(rt, counts);
+    gate_cases::print(rt, counts);
     cases::tally::print_sums(rt, counts);
 }
 
@@ -82,7 +82,7 @@ fn run(case: Case, words: &[u64], ours: &mut [u64], chains: &mut [f64], counts: 
         return;
     }
     let n = answer(case.kind, &words[0..inputs], chains, ours);
-    let letter = gating::counted_as(case.kind, &words[0..inputs]);
+    let letter = gate_cases::counted_as(case.kind, &words[0..inputs]);
     judge(case, letter, words, &ours[0..n], counts);
 }
 
@@ -98,10 +98,10 @@ fn answer(kind: u8, input: &[u64], chains: &mut [f64], ours: &mut [u64]) -> usiz
     ensures { result ≤ length ours.new }
 {
     if kind == b'r' {
-        return gating::batch(kind, input, chains, ours);
+        return gate_cases::batch(kind, input, chains, ours);
     }
     if kind == b'v' {
-        return gating::batch(kind, input, chains, ours);
+        return gate_cases::batch(kind, input, chains, ours);
     }
     0
 }

@@ -52,7 +52,7 @@ module _ (s : Settings) (a : Ask) (p : PricesLent) (target : ℕ) where
       let one = both (is_plan (answer_on t b l (length ds) (length cs) (given S.changes))) (is_aggregate t.policy && worker_same (b.a, b.b) v) q in
       let policy = gated t.policy (both (is_aggregate t.policy) (worker_same (b.a, b.b) v) one.1).0 in
       let alike : candidates_in t b (prices_of l) ≡ candidates_in s a p =
-      rw (same.gamma_same, same.model_same, same.depth_same, same.source_same, same.rows_same, same.prices_same) in
+      ap (λ (lent : PricesLent). candidates_in t b lent) same.prices_same ∙ rw (same.gamma_same, same.model_same, same.depth_same, same.source_same, same.rows_same) in
       (same.switch_same, plan_candidates t b l policy (length ds) (length cs) (given S.changes) one.0 ∙ alike, same.target_same)
   as_before v (collect x y) S q same = tt
   as_before v withdraw S q same = tt
