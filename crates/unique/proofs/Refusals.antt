@@ -6,8 +6,8 @@ use Rattle.refusals.specs.Refusals.{Judgement, number_of, number_in}
 use Rattle.unique.specs.Only.{OnlyOne}
 use Rattle.unique.proofs.Law.{once}
 
-pub refusal_number_once : (refusal : Refusal) → OnlyOne (λ (r : ℕ). r ≡ number_of refusal)
-refusal_number_once refusal x y p q = once p q
+pub refusal_number_once : (self : Refusal) → OnlyOne (λ (r : ℕ). r ≡ number_of self)
+refusal_number_once self x y p q = once p q
 
 pub number_in_once : (judgement : Judgement) → OnlyOne (λ (r : ℕ). r ≡ number_in judgement)
 number_in_once judgement x y p q = once p q
