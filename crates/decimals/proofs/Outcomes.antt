@@ -2,6 +2,7 @@
 use mathlib.Core.Path.{◌≡◌, refl, sym, ap, ◌∙◌, subst}
 use mathlib.Core.Bool.{Bool, true, false, not, ◌&&◌, ◌||◌, cond}
 use mathlib.Core.List.{List, [], ◌++◌, append-nil}
+use Rattle.std.proofs.Common.{Ok, Err}
 use Prim.Native.Nat.{ℕ, suc, ◌+◌, ◌-◌, ◌^◌, ◌≤◌, ◌<◌, min}
 use native.Mathlib.Nat.{le_of_lt, min-eq_left}
 use native.Mathlib.Numerals.{add-one}
@@ -12,10 +13,12 @@ use lib.ListN.{length, get_or, take, drop, length-append, drop_of_length-le}
 use lib.Seq.{take_all}
 use lib.Ieee.{binary64, round}
 use Rattle.laws.proofs.Both.{and_false, or_right}
-use Rattle.decimals.specs.declared.Decimal.TheVariants.{Value, Malformed, TooLong}
+use Rattle.refusals.specs.declared.Refusal.{Refusal}
+use Rattle.refusals.specs.declared.Refusal.TheVariants.{MalformedDecimal, LongDecimal}
+use Rattle.refusals.specs.Refusals.{number_in}
 use Rattle.digits.specs.declared.Digits.{Digits}
 use Rattle.digits.specs.Digits.{is_digit, all_digits, number, count_while, leading_digits, leading_zeros, significant, point, is_zero, is_no_point}
-use Rattle.decimals.specs.Decimals.{decimal_refusal, Spelled, of_parts, unsigned_of, is_too_long}
+use Rattle.decimals.specs.Decimals.{Decimal, without_value, Spelled, of_parts, unsigned_of, is_too_long}
 use Rattle.digits.proofs.Bytes.{count_before, count_through, count_past, count_ends, count_goes_on, count_stops}
 use Rattle.digits.proofs.Leading.{all_append, number_append, few_below, all_leading, all_by_count, other_by_count, other_among, capped_before, count_is, number_is as number_from, number_of_all}
 
@@ -92,18 +95,18 @@ module _ (w f : List ℕ) where
 -- ---- a decimal: the digits w before the point and f after it
 
 module _ (negative : Bool) (w f : List ℕ) where
-  pub no_digit : length w + length f ≡ 0 → Malformed ≡ of_parts negative w f
+  pub no_digit : length w + length f ≡ 0 → Err MalformedDecimal ≡ of_parts negative w f
   unfolding of_parts
   no_digit e = rw (length-append w f, le-ltb 0 (length w + length f) (no_more (length w + length f) e))
 
-  other : (all_digits w && all_digits f) ≡ false → Malformed ≡ of_parts negative w f
+  other : (all_digits w && all_digits f) ≡ false → Err MalformedDecimal ≡ of_parts negative w f
   unfolding of_parts
   other e = rw (all_append w f, e, and_false (ltb 0 (length (w ++ f))))
 
-  pub other_before : all_digits w ≡ false → Malformed ≡ of_parts negative w f
+  pub other_before : all_digits w ≡ false → Err MalformedDecimal ≡ of_parts negative w f
   other_before e = other (rw e)
 
-  pub other_after : all_digits f ≡ false → Malformed ≡ of_parts negative w f
+  pub other_after : all_digits f ≡ false → Err MalformedDecimal ≡ of_parts negative w f
   other_after e = other (rw e (and_false (all_digits w)))
 
   -- from here on the text is well formed
@@ -111,7 +114,7 @@ module _ (negative : Bool) (w f : List ℕ) where
     well_formed : (ltb 0 (length (w ++ f)) && all_digits (w ++ f)) ≡ true
     well_formed = rw (all, length-append w f, lt-ltb 0 (length w + length f) (above_zero (length w + length f) some))
 
-    pub too_long_is : is_too_long w f ≡ true → TooLong ≡ of_parts negative w f
+    pub too_long_is : is_too_long w f ≡ true → Err LongDecimal ≡ of_parts negative w f
     unfolding of_parts
     too_long_is h = rw (well_formed, h)
 
@@ -119,11 +122,11 @@ module _ (negative : Bool) (w f : List ℕ) where
     number_is : (d : ℕ) → d ≡ min (number 0 (w ++ f)) (10 ^ 15) → is_too_long w f ≡ false → d ≡ number 0 (w ++ f)
     number_is d read h = read ∙ min-eq_left (le_of_lt (few_below (w ++ f) (subst T (sym all) tt) (few_significant w f h)))
 
-    pub value_is : (d : ℕ) → d ≡ min (number 0 (w ++ f)) (10 ^ 15) → is_too_long w f ≡ false → Value (round binary64 negative d (10 ^ length f)) ≡ of_parts negative w f
+    pub value_is : (d : ℕ) → d ≡ min (number 0 (w ++ f)) (10 ^ 15) → is_too_long w f ≡ false → Ok (round binary64 negative d (10 ^ length f)) ≡ of_parts negative w f
     unfolding of_parts
     value_is d read h = rw (well_formed, h, number_is d read h)
 
-    pub nothing_wrong : is_too_long w f ≡ false → 0 ≡ decimal_refusal (of_parts negative w f)
+    pub nothing_wrong : is_too_long w f ≡ false → Ok tt ≡ without_value (of_parts negative w f)
     unfolding of_parts
     nothing_wrong h = rw (well_formed, h)
 
@@ -131,18 +134,23 @@ pub all_of_both : (w f : List ℕ) → all_digits w ≡ true → all_digits f �
 all_of_both w f p q = all_append w f ∙ rw (p, q)
 
 -- what is wrong with a decimal is so whatever its sign
-parts_signless : (a b : Bool) (w f : List ℕ) → decimal_refusal (of_parts a w f) ≡ decimal_refusal (of_parts b w f)
+parts_signless : (a b : Bool) (w f : List ℕ) → without_value (of_parts a w f) ≡ without_value (of_parts b w f)
 unfolding of_parts
 parts_signless a b w f = go (ltb 0 (length (w ++ f)) && all_digits (w ++ f)) (is_too_long w f)
   where
-    go : (x y : Bool) → decimal_refusal (cond x (cond y TooLong (Value (round binary64 a (number 0 (w ++ f)) (10 ^ length f)))) Malformed) ≡ decimal_refusal (cond x (cond y TooLong (Value (round binary64 b (number 0 (w ++ f)) (10 ^ length f)))) Malformed)
+    go : (x y : Bool) → without_value (cond x (cond y (Err LongDecimal) (Ok (round binary64 a (number 0 (w ++ f)) (10 ^ length f)))) (Err MalformedDecimal)) ≡ without_value (cond x (cond y (Err LongDecimal) (Ok (round binary64 b (number 0 (w ++ f)) (10 ^ length f)))) (Err MalformedDecimal))
     go true true = refl
     go true false = refl
     go false y = refl
 
-pub signless : (a b : Bool) (t : List ℕ) → decimal_refusal (unsigned_of a t) ≡ decimal_refusal (unsigned_of b t)
+pub signless : (a b : Bool) (t : List ℕ) → without_value (unsigned_of a t) ≡ without_value (unsigned_of b t)
 unfolding unsigned_of
 signless a b t = parts_signless a b (take (point t) t) (drop (suc (point t)) t)
+
+-- the number of its refusal is that of what was read
+pub number_without : (read : Decimal) → number_in (without_value read) ≡ number_in read
+number_without (Ok x) = refl
+number_without (Err refusal) = refl
 
 -- ---- where the point is: k digits stand before it
 
@@ -163,7 +171,7 @@ module _ (negative : Bool) (t : List ℕ) (k : ℕ) (count : k ≡ count_while i
       ∙ ap (λ (l : List ℕ). of_parts negative l (drop (suc (point t)) t)) (sym (take_all (point t) t far))
 
   -- another byte than the point ends the digits
-  pub other_than_point : k < length t → (get_or t k 0 ≡ 46 → ⊥) → Malformed ≡ unsigned_of negative t
+  pub other_than_point : k < length t → (get_or t k 0 ≡ 46 → ⊥) → Err MalformedDecimal ≡ unsigned_of negative t
   unfolding unsigned_of
   other_than_point h n =
       let later : point (drop k t) ≡ suc (point (drop (k + 1) t)) = count_goes_on is_no_point t k h (ap not (ne_eqb (get_or t k 0) 46 n)) in
@@ -182,7 +190,7 @@ module _ (negative : Bool) (t : List ℕ) (k : ℕ) (count : k ≡ count_while i
         ap (λ (l : List ℕ). of_parts negative (take k t) l) (rest ∙ ap (λ (i : ℕ). drop i t) (add-one k))
         ∙ ap (λ (i : ℕ). of_parts negative (take i t) (drop (suc i) t)) (sym at_point)
 
-    pub other_behind : (j : ℕ) → j ≡ count_while is_digit f → j < length f → Malformed ≡ unsigned_of negative t
+    pub other_behind : (j : ℕ) → j ≡ count_while is_digit f → j < length f → Err MalformedDecimal ≡ unsigned_of negative t
     other_behind j e h = other_after negative (take k t) f (other_by_count f (subst (λ (i : ℕ). i < length f) e h)) ∙ parted
 
 -- ---- digits before and after the point, by their counts

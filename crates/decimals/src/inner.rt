@@ -2,11 +2,11 @@
 ghost use Rattle.std.specs.Prelude.{◌≡◌, true, false, ◌≤◌, ◌^◌};
 ghost use Rattle.std.specs.Float.{binary64};
 ghost use Rattle.std.specs.Float.Ieee.{round};
-ghost use Rattle.decimals.specs.Decimals.{decimal_refusal, unsigned_of, Spelled, of_parts, is_too_long};
+ghost use Rattle.decimals.specs.Decimals.{without_value, unsigned_of, Spelled, of_parts, is_too_long};
 ghost use Rattle.digits.specs.Digits.{all_digits};
 
-use crate::Decimal;
 use digits::inner as front;
+use refusals::Refusal;
 
 // The most significant digits that a decimal may have, and the first number that has more.
 const SIGNIFICANT: usize = 15;
@@ -17,7 +17,7 @@ pub const DIGITS_LIMIT: u64 = 1000000000000000;
 const DECIMALS: usize = 22;
 
 // The decimal that stands behind the sign.
-pub fn unsigned_decimal(negative: bool, text: &[u8]) -> Decimal
+pub fn unsigned_decimal(negative: bool, text: &[u8]) -> Result<f64, Refusal>
     ensures { result ≡ unsigned_of negative text.now }
 {
     let before = front::leading_digits(text, 0, DIGITS_LIMIT);
@@ -26,62 +26,62 @@ pub fn unsigned_decimal(negative: bool, text: &[u8]) -> Decimal
         return of_digits(negative, text, &text[point..], before.number);
     }
     if text[point] != b'.' {
-        return Decimal::Malformed;
+        return Err(Refusal::MalformedDecimal);
     }
     let from = point + 1;
     let fraction = &text[from..];
     let both = front::leading_digits(fraction, before.number, DIGITS_LIMIT);
     if both.count < fraction.len() {
-        return Decimal::Malformed;
+        return Err(Refusal::MalformedDecimal);
     }
     of_digits(negative, &text[..point], fraction, both.number)
 }
 
 // The decimal of the digits before and after the point, of which `digits` is the number.
-pub fn of_digits(negative: bool, whole: &[u8], fraction: &[u8], digits: u64) -> Decimal
+pub fn of_digits(negative: bool, whole: &[u8], fraction: &[u8], digits: u64) -> Result<f64, Refusal>
     requires { Spelled whole.now fraction.now digits }
     ensures { result ≡ of_parts negative whole.now fraction.now }
 {
     if whole.len() + fraction.len() == 0 {
-        return Decimal::Malformed;
+        return Err(Refusal::MalformedDecimal);
     }
     if too_long(whole, fraction) {
-        return Decimal::TooLong;
+        return Err(Refusal::LongDecimal);
     }
-    Decimal::Value(quotient(negative, digits, fraction.len()))
+    Ok(quotient(negative, digits, fraction.len()))
 }
 
-// What is wrong with the decimal behind a sign.
-pub fn unsigned_refusal(text: &[u8]) -> u64
-    ensures { result ≡ decimal_refusal (unsigned_of false text.now) }
+// Refuses what is wrong with the decimal behind a sign: its value is not worked out.
+pub fn judge_unsigned(text: &[u8]) -> Result<(), Refusal>
+    ensures { result ≡ without_value (unsigned_of false text.now) }
 {
     let before = front::digit_count(text);
     if text.len() <= before {
-        return digits_refusal(text, &text[before..]);
+        return judge_digits(text, &text[before..]);
     }
     if text[before] != b'.' {
-        return 6;
+        return Err(Refusal::MalformedDecimal);
     }
     let from = before + 1;
     let fraction = &text[from..];
     if front::digit_count(fraction) < fraction.len() {
-        return 6;
+        return Err(Refusal::MalformedDecimal);
     }
-    digits_refusal(&text[..before], fraction)
+    judge_digits(&text[..before], fraction)
 }
 
-// What is wrong with the digits before and after the point.
-pub fn digits_refusal(whole: &[u8], fraction: &[u8]) -> u64
+// Refuses what is wrong with the digits before and after the point: having none, then being too many.
+pub fn judge_digits(whole: &[u8], fraction: &[u8]) -> Result<(), Refusal>
     requires { (all_digits whole.now ≡ true) × (all_digits fraction.now ≡ true) }
-    ensures { result ≡ decimal_refusal (of_parts false whole.now fraction.now) }
+    ensures { result ≡ without_value (of_parts false whole.now fraction.now) }
 {
     if whole.len() + fraction.len() == 0 {
-        return 6;
+        return Err(Refusal::MalformedDecimal);
     }
     if too_long(whole, fraction) {
-        return 7;
+        return Err(Refusal::LongDecimal);
     }
-    0
+    Ok(())
 }
 
 // Whether the digits are more than a decimal may have. Only where there are many in all are the leading zeros counted.

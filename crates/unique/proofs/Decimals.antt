@@ -1,10 +1,15 @@
 -- The contracts of `decimals` leave one outcome each. Assumes nothing.
+use mathlib.Core.List.{List}
 use mathlib.Core.Path.{◌≡◌}
+use mathlib.Core.Bool.{Bool, false}
 use Prim.Native.Nat.{ℕ}
-use Rattle.decimals.specs.Decimals.{decimal_refusal}
-use Rattle.decimals.specs.declared.Decimal.{Decimal}
+use Rattle.refusals.specs.Refusals.{Judgement}
+use Rattle.decimals.specs.Decimals.{Decimal, unsigned_of, without_value}
 use Rattle.unique.specs.Only.{OnlyOne}
 use Rattle.unique.proofs.Law.{once}
 
-pub decimal_refusal_once : (self : Decimal) → OnlyOne (λ (r : ℕ). r ≡ decimal_refusal self)
-decimal_refusal_once self x y p q = once p q
+pub unsigned_decimal_once : (negative : Bool) (text : List ℕ) → OnlyOne (λ (r : Decimal). r ≡ unsigned_of negative text)
+unsigned_decimal_once negative text x y p q = once p q
+
+pub judge_unsigned_once : (text : List ℕ) → OnlyOne (λ (r : Judgement). r ≡ without_value (unsigned_of false text))
+judge_unsigned_once text x y p q = once p q

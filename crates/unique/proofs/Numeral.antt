@@ -3,12 +3,10 @@ use mathlib.Core.List.{List}
 use mathlib.Core.Path.{◌≡◌}
 use Prim.Native.Nat.{ℕ}
 use lib.Ieee.{Float, to_unsigned}
-use Rattle.decimals.specs.Decimals.{decimal_of, decimal_refusal}
-use Rattle.decimals.specs.declared.Decimal.{Decimal}
+use Rattle.decimals.specs.Decimals.{Decimal, decimal_of, without_value}
 use Rattle.numeral.specs.Moment.{second_of}
-use Rattle.numeral.specs.Refusals.{whole_refusal}
-use Rattle.numeral.specs.Spelling.{whole_of}
-use Rattle.numeral.specs.declared.answer.Whole.{Whole}
+use Rattle.numeral.specs.Spelling.{Whole, whole_of}
+use Rattle.refusals.specs.Refusals.{Judgement}
 use Rattle.unique.specs.Only.{OnlyOne}
 use Rattle.unique.proofs.Law.{once}
 
@@ -18,14 +16,11 @@ whole_once text x y p q = once p q
 pub decimal_once : (text : List ℕ) → OnlyOne (λ (r : Decimal). r ≡ decimal_of text)
 decimal_once text x y p q = once p q
 
-pub decimal_refusal_once : (text : List ℕ) → OnlyOne (λ (r : ℕ). r ≡ decimal_refusal (decimal_of text))
-decimal_refusal_once text x y p q = once p q
+pub judge_decimal_once : (text : List ℕ) → OnlyOne (λ (r : Judgement). r ≡ without_value (decimal_of text))
+judge_decimal_once text x y p q = once p q
 
 pub second_once : (end : Float) → OnlyOne (λ (r : ℕ). r ≡ second_of end)
 second_once end x y p q = once p q
 
 pub whole_part_once : (x : Float) → OnlyOne (λ (r : ℕ). r ≡ to_unsigned 64 x)
 whole_part_once x one y p q = once p q
-
-pub whole_refusal_once : (self : Whole) → OnlyOne (λ (r : ℕ). r ≡ whole_refusal self)
-whole_refusal_once self x y p q = once p q

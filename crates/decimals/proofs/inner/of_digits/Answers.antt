@@ -1,7 +1,7 @@
 -- `numeral::of_digits` meets its contract: each way out is a law of `Outcomes`. Assumes nothing.
 use mathlib.Core.Path.{sym, ap, ◌∙◌}
 use native.Mathlib.Omega.{arith}
-use Rattle.decimals.specs.declared.Decimal.TheVariants.{Value}
+use Rattle.std.proofs.Common.{Ok}
 use Rattle.decimals.proofs.Outcomes.{no_digit, all_of_both, too_long_is, few_decimals, value_is}
 use Rattle.decimals.proofs.inner.of_digits.Goals as goal
 
@@ -23,5 +23,5 @@ quotient-requires c =
 pub returns : goal.returns
 returns c =
     let a = c.args in
-    ap Value c.quotient.ensures
+    ap Ok c.quotient.ensures
     ∙ value_is a.negative a.whole.now a.fraction.now c.if-whole-fraction-eq0.false (all_of_both a.whole.now a.fraction.now c.requires.before c.requires.behind) a.digits c.requires.digits (sym c.too_long.ensures ∙ c.if-too_long.false)

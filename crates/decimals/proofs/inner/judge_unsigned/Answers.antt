@@ -1,4 +1,4 @@
--- `numeral::unsigned_refusal` meets its contract: each way out is a law of `Outcomes` for the digits before the point. Assumes nothing.
+-- `numeral::judge_unsigned` meets its contract: each way out is a law of `Outcomes` for the digits before the point. Assumes nothing.
 use mathlib.Core.Path.{ap, ◌∙◌}
 use mathlib.Core.Bool.{false}
 use Prim.Native.Nat.{◌+◌, ◌-◌}
@@ -6,19 +6,19 @@ use native.Mathlib.Omega.{arith}
 use lib.ListN.{length, take, drop}
 use Rattle.laws.proofs.Lists.{part}
 use Rattle.digits.specs.Digits.{is_digit}
-use Rattle.decimals.specs.Decimals.{decimal_refusal}
+use Rattle.decimals.specs.Decimals.{without_value}
 use Rattle.digits.proofs.Bytes.{count_le}
 use Rattle.decimals.proofs.Outcomes.{no_point, other_than_point, parted, other_behind, digits_before, digits_all, digits_none}
-use Rattle.decimals.proofs.inner.unsigned_refusal.Goals as goal
+use Rattle.decimals.proofs.inner.judge_unsigned.Goals as goal
 
-pub slice_bounds-digits_refusal-count : goal.slice_bounds-digits_refusal-count
-slice_bounds-digits_refusal-count c = omega (arith, count_le is_digit c.args.text.now, c.digit_count-before.ensures)
+pub slice_bounds-judge_digits-count : goal.slice_bounds-judge_digits-count
+slice_bounds-judge_digits-count c = omega (arith, count_le is_digit c.args.text.now, c.digit_count-before.ensures)
 
-pub slice_bounds-digits_refusal-start : goal.slice_bounds-digits_refusal-start
-slice_bounds-digits_refusal-start c = omega (arith, count_le is_digit c.args.text.now, c.digit_count-before.ensures)
+pub slice_bounds-judge_digits-start : goal.slice_bounds-judge_digits-start
+slice_bounds-judge_digits-start c = omega (arith, count_le is_digit c.args.text.now, c.digit_count-before.ensures)
 
-pub digits_refusal-requires : goal.digits_refusal-requires
-digits_refusal-requires c =
+pub judge_digits-requires : goal.judge_digits-requires
+judge_digits-requires c =
     let t = c.args.text.now in
     let k = c.digit_count-before in
     (digits_all t k.result k.ensures c.if-text-before.true, digits_none t _ k.result c.if-text-before.true (part k.result t))
@@ -27,23 +27,23 @@ pub returns-then-text-before : goal.returns-then-text-before
 returns-then-text-before c =
     let t = c.args.text.now in
     let k = c.digit_count-before in
-    c.digits_refusal.ensures ∙ ap decimal_refusal (no_point false t k.result k.ensures _ c.if-text-before.true (part k.result t))
+    c.judge_digits.ensures ∙ ap without_value (no_point false t k.result k.ensures _ c.if-text-before.true (part k.result t))
 
 pub returns-then-text-before-ne46 : goal.returns-then-text-before-ne46
 returns-then-text-before-ne46 c =
     let t = c.args.text.now in
     let k = c.digit_count-before in
-    ap decimal_refusal (other_than_point false t k.result k.ensures c.if-text-before.false c.if-text-before-ne46.true)
+    ap without_value (other_than_point false t k.result k.ensures c.if-text-before.false c.if-text-before-ne46.true)
 
 pub returns-then-digit_count-fraction : goal.returns-then-digit_count-fraction
 returns-then-digit_count-fraction c =
     let t = c.args.text.now in
     let k = c.digit_count-before in
     let j = c.digit_count in
-    ap decimal_refusal (other_behind false t k.result k.ensures _ c.if-text-before.false c.if-text-before-ne46.false (part (k.result + 1) t) j.result j.ensures c.if-digit_count-fraction.true)
+    ap without_value (other_behind false t k.result k.ensures _ c.if-text-before.false c.if-text-before-ne46.false (part (k.result + 1) t) j.result j.ensures c.if-digit_count-fraction.true)
 
-pub digits_refusal-requires-2 : goal.digits_refusal-requires-2
-digits_refusal-requires-2 c =
+pub judge_digits-requires-2 : goal.judge_digits-requires-2
+judge_digits-requires-2 c =
     let t = c.args.text.now in
     let k = c.digit_count-before in
     let j = c.digit_count in
@@ -53,4 +53,4 @@ pub returns : goal.returns
 returns c =
     let t = c.args.text.now in
     let k = c.digit_count-before in
-    c.digits_refusal-2.ensures ∙ ap decimal_refusal (parted false t k.result k.ensures _ c.if-text-before.false c.if-text-before-ne46.false (part (k.result + 1) t))
+    c.judge_digits-2.ensures ∙ ap without_value (parted false t k.result k.ensures _ c.if-text-before.false c.if-text-before-ne46.false (part (k.result + 1) t))
