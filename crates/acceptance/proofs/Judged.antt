@@ -1,6 +1,7 @@
 -- The value of a position, what is refused before anything is drawn or added up, and what is known of a model that passes: each value lies in the range 0 to 1. Assumes nothing.
 use mathlib.Core.Path.{◌≡◌, refl, sym, ap, ◌∙◌}
 use mathlib.Core.Bool.{Bool, true, false, ◌&&◌, cond}
+use Rattle.std.specs.Prelude.{Ok, Err}
 use mathlib.Core.List.{List, [], ◌∷◌}
 use Prim.Native.Nat.{ℕ, zero, suc, ◌+◌, ◌≤◌, ◌<◌}
 use native.Mathlib.Nat.{not-suc-le-zero, le_of_suc-le-suc}
@@ -15,8 +16,10 @@ use Rattle.float.specs.Range.{in_range}
 use Rattle.float.proofs.Classes.{clash}
 use Rattle.acceptance.specs.declared.AcceptanceModel.{AcceptanceModel}
 use Rattle.acceptance.specs.declared.AcceptanceModel.TheVariants.{Constant, PerPosition, Trace}
-use Rattle.acceptance.specs.Acceptance.{most_positions, most_gamma, a_d, is_chance, all_chances, carries_chance, model_refusal, gamma_refusal, acceptance_refusal}
-use Rattle.refusals.specs.Refusals.{first_of}
+use Rattle.refusals.specs.declared.Refusal.{Refusal}
+use Rattle.refusals.specs.declared.Refusal.TheVariants.{Size, Setting}
+use Rattle.refusals.specs.Refusals.{passed_if, number_in}
+use Rattle.acceptance.specs.Acceptance.{most_positions, most_gamma, a_d, is_chance, all_chances, model_judged, model_refusal, acceptance_judged}
 
 -- ---- the value of a position
 pub of_model : (model other : AcceptanceModel) (positions : List Float) (d : ℕ) (x : Float) → model ≡ other → x ≡ a_d other positions d → x ≡ a_d model positions d
@@ -37,42 +40,29 @@ chances_end t i h = ap all_chances (drop_of_length-le t h)
 
 module _ (model : AcceptanceModel) (positions : List Float) where
   -- ---- each way through the judge
-  pub too_many : most_positions < length positions → 12 ≡ model_refusal model positions
-  unfolding model_refusal
+  pub too_many : most_positions < length positions → model_judged model positions ≡ Err Setting
+  unfolding model_judged
   too_many h = rw (lt-leb (length positions) most_positions h)
 
-  pub judged : (b d : Bool) → length positions ≤ most_positions → all_chances positions ≡ b → carries_chance model ≡ d → cond (b && d) 0 12 ≡ model_refusal model positions
-  unfolding model_refusal
-  judged b d h e k = rw (le-leb (length positions) most_positions h, e, k)
+  pub no_chances : length positions ≤ most_positions → all_chances positions ≡ false → model_judged model positions ≡ Err Setting
+  unfolding model_judged
+  no_chances h e = rw (le-leb (length positions) most_positions h, e)
 
-  pub no_chances : length positions ≤ most_positions → all_chances positions ≡ false → 12 ≡ model_refusal model positions
-  no_chances h e = judged false (carries_chance model) h e refl
+  -- ---- the settings go before gamma
+  pub settings_first : (gamma : ℕ) (refusal : Refusal) → model_judged model positions ≡ Err refusal → acceptance_judged model positions gamma ≡ Err refusal
+  unfolding acceptance_judged
+  settings_first gamma refusal e = rw e
 
-  -- ---- 12 goes before 11
-  pub settings_first : (gamma r : ℕ) → r ≡ model_refusal model positions → 0 < r → r ≡ acceptance_refusal model positions gamma
-  unfolding acceptance_refusal
-  settings_first gamma r e h = go r h ∙ ap (λ (n : ℕ). first_of n (gamma_refusal gamma)) e
-    where
-      go : (n : ℕ) → 0 < n → n ≡ first_of n (gamma_refusal gamma)
-      go zero k = absurd (not-suc-le-zero k)
-      go (suc n) k = refl
+  pub too_deep : (gamma : ℕ) → model_judged model positions ≡ Ok tt → most_gamma < gamma → acceptance_judged model positions gamma ≡ Err Size
+  unfolding acceptance_judged
+  too_deep gamma e k = rw (e, lt-leb gamma most_gamma k)
 
-  then_gamma : (gamma r : ℕ) → r ≡ model_refusal model positions → r ≤ 0 → gamma_refusal gamma ≡ acceptance_refusal model positions gamma
-  unfolding acceptance_refusal
-  then_gamma gamma r e h = go r h ∙ ap (λ (n : ℕ). first_of n (gamma_refusal gamma)) e
-    where
-      go : (n : ℕ) → n ≤ 0 → gamma_refusal gamma ≡ first_of n (gamma_refusal gamma)
-      go zero k = refl
-      go (suc n) k = absurd (not-suc-le-zero k)
-
-  pub too_deep : (gamma r : ℕ) → r ≡ model_refusal model positions → r ≤ 0 → most_gamma < gamma → 11 ≡ acceptance_refusal model positions gamma
-  too_deep gamma r e h k = sym (ap (λ (b : Bool). cond b 0 11) (lt-leb gamma most_gamma k)) ∙ then_gamma gamma r e h
-
-  pub none_refused : (gamma r : ℕ) → r ≡ model_refusal model positions → r ≤ 0 → gamma ≤ most_gamma → 0 ≡ acceptance_refusal model positions gamma
-  none_refused gamma r e h k = sym (ap (λ (b : Bool). cond b 0 11) (le-leb gamma most_gamma k)) ∙ then_gamma gamma r e h
+  pub none_refused : (gamma : ℕ) → model_judged model positions ≡ Ok tt → gamma ≤ most_gamma → acceptance_judged model positions gamma ≡ Ok tt
+  unfolding acceptance_judged
+  none_refused gamma e k = rw (e, le-leb gamma most_gamma k)
 
 -- ---- a model that passes
-both : (a b d : Bool) → ◌≡◌ {A = ℕ} (cond (a && (b && d)) 0 12) 0 → (b ≡ true) × (d ≡ true)
+both : (a b d : Bool) → ◌≡◌ {A = ℕ} (number_in (passed_if (a && (b && d)) Setting)) 0 → (b ≡ true) × (d ≡ true)
 both true true true e = (refl, refl)
 both true true false e = absurd (let w : ⊥ = omega arith in w)
 both true false d e = absurd (let w : ⊥ = omega arith in w)
@@ -94,7 +84,7 @@ zero_chance = refl
 
 -- each value of a model that passes lies in the range 0 to 1
 pub value_in_range : (model : AcceptanceModel) (positions : List Float) → model_refusal model positions ≡ 0 → (d : ℕ) → in_range f0 f1 (a_d model positions d) ≡ true
-unfolding model_refusal
+unfolding model_judged
 value_in_range (Constant alpha) positions e d = (both (leb (length positions) most_positions) (all_chances positions) (is_chance alpha) e).1
 value_in_range PerPosition positions e d = go (ltb d (length positions)) refl
   where

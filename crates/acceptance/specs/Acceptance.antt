@@ -1,17 +1,16 @@
 -- How the target accepts a draft: the value of each position, what is refused, the expected number of accepted drafts, and what draws accept.
 -- Assumes nothing.
-use Rattle.std.specs.Prelude.{ℕ, zero, suc, Bool, true, false, ◌&&◌, cond, List, [], ◌∷◌, leb, ltb, length, get_or, drop, Float}
+use Rattle.std.specs.Prelude.{ℕ, zero, suc, Bool, true, false, ◌&&◌, cond, List, [], ◌∷◌, leb, ltb, length, get_or, drop, Float, Result, Ok, Err}
 use Rattle.std.specs.Float.{nan}
 use Rattle.std.specs.Float.Ieee.{lt}
 use Rattle.float.specs.Floats.{plus, times, f0, f1, is_clear}
 use Rattle.float.specs.Range.{in_range}
-use Rattle.refusals.specs.Refusals.{first_of}
+use Rattle.refusals.specs.declared.Refusal.{Refusal}
+use Rattle.refusals.specs.declared.Refusal.TheVariants.{Size, Setting, AbsentDraw, Draw}
+use Rattle.refusals.specs.Refusals.{Judgement, passed_if, and_then, number_in}
 use Rattle.acceptance.specs.declared.AcceptanceModel.{AcceptanceModel}
 use Rattle.acceptance.specs.declared.AcceptanceModel.TheVariants.{Constant, PerPosition, Trace}
-use Rattle.acceptance.specs.declared.Expected.{Expected}
-use Rattle.acceptance.specs.declared.Expected.TheVariants.{Value, Refused as NoValue}
 use Rattle.acceptance.specs.declared.Sample.{Sample}
-use Rattle.acceptance.specs.declared.Sample.TheVariants.{Accepted, Refused}
 
 -- ---- sizes
 abbrev pub most_positions : ℕ
@@ -47,15 +46,19 @@ carries_chance Trace = true
 abbrev pub is_model : AcceptanceModel → List Float → Bool
 is_model model positions = leb (length positions) most_positions && (all_chances positions && carries_chance model)
 
-unfoldable pub model_refusal : AcceptanceModel → List Float → ℕ
-model_refusal model positions = cond (is_model model positions) 0 12
+unfoldable pub model_judged : AcceptanceModel → List Float → Judgement
+model_judged model positions = passed_if (is_model model positions) Setting
 
-abbrev pub gamma_refusal : ℕ → ℕ
-gamma_refusal gamma = cond (leb gamma most_gamma) 0 11
+-- its number, 0 where it passes
+abbrev pub model_refusal : AcceptanceModel → List Float → ℕ
+model_refusal model positions = number_in (model_judged model positions)
 
--- 12 goes before 11
-unfoldable pub acceptance_refusal : AcceptanceModel → List Float → ℕ → ℕ
-acceptance_refusal model positions gamma = first_of (model_refusal model positions) (gamma_refusal gamma)
+abbrev pub gamma_judged : ℕ → Judgement
+gamma_judged gamma = passed_if (leb gamma most_gamma) Size
+
+-- the settings go before gamma
+unfoldable pub acceptance_judged : AcceptanceModel → List Float → ℕ → Judgement
+acceptance_judged model positions gamma = and_then (model_judged model positions) (gamma_judged gamma)
 
 -- ---- the expected number of accepted drafts
 module _ (model : AcceptanceModel) (positions : List Float) where
@@ -69,61 +72,48 @@ module _ (model : AcceptanceModel) (positions : List Float) where
   expected_to zero = f0
   expected_to (suc d) = plus (expected_to d) (product_to (suc d))
 
-abbrev pub value_unless : ℕ → Float → Expected
-value_unless zero x = Value x
-value_unless (suc refusal) x = NoValue (suc refusal)
-
-unfoldable pub expected_accepted : AcceptanceModel → List Float → ℕ → Expected
-expected_accepted model positions gamma = value_unless (acceptance_refusal model positions gamma) (expected_to model positions gamma)
+unfoldable pub expected_accepted : AcceptanceModel → List Float → ℕ → Result Float Refusal
+expected_accepted model positions gamma = and_then (acceptance_judged model positions gamma) (Ok (expected_to model positions gamma))
 
 -- ---- what draws accept
+
+abbrev pub accepted : ℕ → ℕ → Sample
+accepted commits used = record { commits = commits; used = used }
 
 -- at least 0 and below 1: no NaN, and minus zero is out
 unfoldable pub is_draw : Float → Bool
 is_draw x = is_clear x && lt x f1
 
 -- a draw that was below: one more commit and one more draw used
-abbrev pub and_one : Sample → Sample
-and_one (Accepted commits used) = Accepted (suc commits) (suc used)
-and_one (Refused refusal) = Refused refusal
+abbrev pub and_one : Result Sample Refusal → Result Sample Refusal
+and_one (Ok sample) = Ok (accepted (suc sample.commits) (suc sample.used))
+and_one (Err refusal) = Err refusal
 
 -- a draw is consumed. Whether it is one, whether it is below its position's value, and what the later draws bring: a draw that is none is refused 14,
 -- one that is not below is used and ends it, and after one that is below the later ones are consumed
-abbrev pub consume : Bool → Bool → Sample → Sample
-consume false below later = Refused 14
-consume true false later = Accepted 0 1
+abbrev pub consume : Bool → Bool → Result Sample Refusal → Result Sample Refusal
+consume false below later = Err Draw
+consume true false later = Ok (accepted 0 1)
 consume true true later = and_one later
 
 -- from position d on, with so many drafts left: nothing more is looked at where none is left, and a draw that is needed and absent is refused 13
-unfoldable pub sampled : AcceptanceModel → List Float → ℕ → ℕ → List Float → Sample
-sampled model positions d zero draws = Accepted 0 0
-sampled model positions d (suc left) [] = Refused 13
+unfoldable pub sampled : AcceptanceModel → List Float → ℕ → ℕ → List Float → Result Sample Refusal
+sampled model positions d zero draws = Ok (accepted 0 0)
+sampled model positions d (suc left) [] = Err AbsentDraw
 sampled model positions d (suc left) (x ∷ draws) = consume (is_draw x) (lt x (a_d model positions d)) (sampled model positions (suc d) left draws)
 
 -- one sequence, from a draw on
-abbrev pub sample_from : AcceptanceModel → List Float → ℕ → List Float → ℕ → Sample
+abbrev pub sample_from : AcceptanceModel → List Float → ℕ → List Float → ℕ → Result Sample Refusal
 sample_from model positions gamma draws from = sampled model positions 0 gamma (drop from draws)
 
-abbrev pub sample_unless : ℕ → Sample → Sample
-sample_unless zero sample = sample
-sample_unless (suc refusal) sample = Refused (suc refusal)
+unfoldable pub sample_accepted : AcceptanceModel → List Float → ℕ → List Float → Result Sample Refusal
+sample_accepted model positions gamma draws = and_then (acceptance_judged model positions gamma) (sample_from model positions gamma draws 0)
 
-unfoldable pub sample_accepted : AcceptanceModel → List Float → ℕ → List Float → Sample
-sample_accepted model positions gamma draws = sample_unless (acceptance_refusal model positions gamma) (sample_from model positions gamma draws 0)
+-- ---- the numbers of a sample; 0 where it is refused
+abbrev pub commits_of : Result Sample Refusal → ℕ
+commits_of (Ok sample) = sample.commits
+commits_of (Err refusal) = 0
 
--- ---- the refusal number and the numbers of each answer; 0 where there is none
-abbrev pub expected_refusal : Expected → ℕ
-expected_refusal (Value x) = 0
-expected_refusal (NoValue refusal) = refusal
-
-abbrev pub sample_refusal : Sample → ℕ
-sample_refusal (Accepted commits used) = 0
-sample_refusal (Refused refusal) = refusal
-
-abbrev pub commits_of : Sample → ℕ
-commits_of (Accepted commits used) = commits
-commits_of (Refused refusal) = 0
-
-abbrev pub used_of : Sample → ℕ
-used_of (Accepted commits used) = used
-used_of (Refused refusal) = 0
+abbrev pub used_of : Result Sample Refusal → ℕ
+used_of (Ok sample) = sample.used
+used_of (Err refusal) = 0

@@ -3,6 +3,7 @@ ghost use Rattle.std.specs.Prelude.{◌≡◌};
 ghost use Rattle.acceptance.specs.Acceptance.{is_draw, sample_from};
 
 use crate::{AcceptanceModel, Sample};
+use refusals::Refusal;
 
 // How many drafts of one sequence the draws accept, from the draw `from` on: they are consumed in order until one is not
 // below its position's value, or until gamma are used. 13 where a needed draw is absent, 14 where a consumed one is out of range.
@@ -12,40 +13,37 @@ pub fn sample_from(
     gamma: u32,
     draws: &[f64],
     from: usize,
-) -> Sample
+) -> Result<Sample, Refusal>
     ensures { result ≡ sample_from model positions.now gamma draws.now from }
 {
-    let drafts = gamma as usize;
     let mut at = from;
-    let mut n = 0usize;
-    while n < drafts {
+    for n in 0..gamma {
         if draws.len() <= at {
-            return Sample::Refused(13);
+            return Err(Refusal::AbsentDraw);
         }
         let draw = draws[at];
-        if is_draw(draw) {
-            at += 1;
-        } else {
-            return Sample::Refused(14);
+        if !is_draw(draw) {
+            return Err(Refusal::Draw);
         }
-        if draw < crate::a_d(model, positions, n) {
-            n += 1;
-        } else {
-            return Sample::Accepted {
-                commits: n as u32,
-                used: n + 1,
-            };
+        at += 1;
+        let is_below = draw < crate::a_d(model, positions, n as usize);
+        if !is_below {
+            return Ok(Sample {
+                commits: n,
+                used: n as usize + 1,
+            });
         }
     }
-    Sample::Accepted {
-        commits: n as u32,
-        used: n,
-    }
+    Ok(Sample {
+        commits: gamma,
+        used: gamma as usize,
+    })
 }
 
 // A draw is at least 0.0 and below 1.0; minus zero is none.
+#[tactic(auto, unfolding(crate::specs::Acceptance::is_draw))]
 fn is_draw(x: f64) -> bool
     ensures { result ≡ is_draw x }
 {
-    if float::is_clear(x) { x < 1.0 } else { false }
+    float::is_clear(x) && x < 1.0
 }

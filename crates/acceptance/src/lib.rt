@@ -5,7 +5,9 @@
 pub mod inner;
 
 ghost use Rattle.std.specs.Prelude.{◌≡◌};
-ghost use Rattle.acceptance.specs.Acceptance.{a_d, all_chances, model_refusal, acceptance_refusal, expected_to, expected_accepted, sample_accepted};
+ghost use Rattle.acceptance.specs.Acceptance.{a_d, all_chances, carries_chance, model_judged, acceptance_judged, expected_to, expected_accepted, sample_accepted};
+
+use refusals::Refusal;
 
 // `PerPosition`'s list stands beside the enum, as `positions`; the rounds of `Trace` are the planner's.
 #[derive(Clone, Copy)]
@@ -15,18 +17,11 @@ pub enum AcceptanceModel {
     Trace,
 }
 
-// The expected number of accepted drafts, or the number of the refusal.
+// How many drafts were accepted, and how many draws that took.
 #[derive(Clone, Copy)]
-pub enum Expected {
-    Value(f64),
-    Refused(u64),
-}
-
-// How many drafts were accepted and how many draws that took, or the number of the refusal.
-#[derive(Clone, Copy)]
-pub enum Sample {
-    Accepted { commits: u32, used: usize },
-    Refused(u64),
+pub struct Sample {
+    pub commits: u32,
+    pub used: usize,
 }
 
 // The most positions of a model.
@@ -52,54 +47,42 @@ pub fn a_d(model: AcceptanceModel, positions: &[f64], d: usize) -> f64
     }
 }
 
-// 12 where the model or a position is out of range or there are too many positions, used by the model or not; else 0.
-pub fn model_refusal(model: AcceptanceModel, positions: &[f64]) -> u64
-    ensures { result ≡ model_refusal model positions.now }
+// Refused as a setting where the model or a position is out of range or there are too many positions, used by the model or not.
+#[tactic(auto, unfolding(crate::specs::Acceptance::model_judged))]
+pub fn judge_model(model: AcceptanceModel, positions: &[f64]) -> Result<(), Refusal>
+    ensures { result ≡ model_judged model positions.now }
 {
-    if MOST_POSITIONS < positions.len() {
-        return 12;
-    }
-    if are_chances(positions) {
-        match model {
-            AcceptanceModel::Constant(alpha) => {
-                if float::in_range(alpha, 0.0, 1.0) {
-                    0
-                } else {
-                    12
-                }
-            }
-            AcceptanceModel::PerPosition => 0,
-            AcceptanceModel::Trace => 0,
-        }
+    if positions.len() <= MOST_POSITIONS && are_chances(positions) && carries_chance(model) {
+        Ok(())
     } else {
-        12
+        Err(Refusal::Setting)
     }
 }
 
-// The expected number of accepted drafts of a draft of `gamma`; 12, then 11 where gamma is too large. Of `Trace` it is 0.0.
-pub fn expected_accepted(model: AcceptanceModel, positions: &[f64], gamma: u32) -> Expected
+// The expected number of accepted drafts of a draft of `gamma`; the model is judged before gamma. Of `Trace` it is 0.0.
+#[tactic(auto, unfolding(crate::specs::Acceptance::expected_accepted))]
+pub fn expected_accepted(
+    model: AcceptanceModel,
+    positions: &[f64],
+    gamma: u32,
+) -> Result<f64, Refusal>
     ensures { result ≡ expected_accepted model positions.now gamma }
 {
-    let refusal = refusal_of(model, positions, gamma);
-    if 0 < refusal {
-        return Expected::Refused(refusal);
-    }
-    Expected::Value(expected_sum(model, positions, gamma))
+    judge(model, positions, gamma)?;
+    Ok(expected_sum(model, positions, gamma))
 }
 
-// How many drafts of one sequence the draws accept, from the front of `draws`; 12, then 11, then 13 or 14 of a draw.
+// How many drafts of one sequence the draws accept, from the front of `draws`: the model is judged first, then gamma, then each draw.
+#[tactic(auto, unfolding(crate::specs::Acceptance::sample_accepted))]
 pub fn sample_accepted(
     model: AcceptanceModel,
     positions: &[f64],
     gamma: u32,
     draws: &[f64],
-) -> Sample
+) -> Result<Sample, Refusal>
     ensures { result ≡ sample_accepted model positions.now gamma draws.now }
 {
-    let refusal = refusal_of(model, positions, gamma);
-    if 0 < refusal {
-        return Sample::Refused(refusal);
-    }
+    judge(model, positions, gamma)?;
     inner::sample_from(model, positions, gamma, draws, 0)
 }
 
@@ -107,40 +90,41 @@ pub fn sample_accepted(
 fn are_chances(positions: &[f64]) -> bool
     ensures { result ≡ all_chances positions.now }
 {
-    let mut d = 0usize;
-    while d < positions.len() {
-        if float::in_range(positions[d], 0.0, 1.0) {
-            d += 1;
-        } else {
-            return false;
-        }
-    }
-    true
+    positions.iter().all(|x| float::in_range(*x, 0.0, 1.0))
 }
 
-// What is refused before anything is drawn or added up: 12, then 11; else 0.
-fn refusal_of(model: AcceptanceModel, positions: &[f64], gamma: u32) -> u64
-    ensures { result ≡ acceptance_refusal model positions.now gamma }
+// Whether what the model itself carries is a chance.
+fn carries_chance(model: AcceptanceModel) -> bool
+    ensures { result ≡ carries_chance model }
 {
-    let refusal = model_refusal(model, positions);
-    if 0 < refusal {
-        return refusal;
+    match model {
+        AcceptanceModel::Constant(alpha) => float::in_range(alpha, 0.0, 1.0),
+        AcceptanceModel::PerPosition | AcceptanceModel::Trace => true,
     }
-    if MOST_GAMMA < gamma { 11 } else { 0 }
+}
+
+// What is refused before anything is drawn or added up: the model, then gamma.
+#[tactic(auto, unfolding(crate::specs::Acceptance::acceptance_judged))]
+fn judge(model: AcceptanceModel, positions: &[f64], gamma: u32) -> Result<(), Refusal>
+    ensures { result ≡ acceptance_judged model positions.now gamma }
+{
+    judge_model(model, positions)?;
+    if gamma <= MOST_GAMMA {
+        Ok(())
+    } else {
+        Err(Refusal::Size)
+    }
 }
 
 // The sum of the products of the first values, one product for each draft.
 fn expected_sum(model: AcceptanceModel, positions: &[f64], gamma: u32) -> f64
     ensures { result ≡ expected_to model positions.now gamma }
 {
-    let drafts = gamma as usize;
     let mut prefix = 1.0;
     let mut e = 0.0;
-    let mut d = 0usize;
-    while d < drafts {
-        prefix = prefix * a_d(model, positions, d);
-        e = e + prefix;
-        d += 1;
+    for d in 0..gamma as usize {
+        prefix *= a_d(model, positions, d);
+        e += prefix;
     }
     e
 }
