@@ -1,6 +1,6 @@
 -- `cost_rows::inner::sanitised` meets its contract. Assumes nothing.
 use mathlib.Core.Path.{◌≡◌, sym, ◌∙◌}
-use Prim.Native.Nat.{◌≤◌, ◌<◌, ◌-◌}
+use Prim.Native.Nat.{◌≤◌, ◌<◌}
 use native.Mathlib.Omega.{arith}
 use lib.ListN.{length, drop}
 use mathlib.Core.Bool.{true, false}
@@ -28,7 +28,7 @@ loop-i-preserved c =
     let p : n ≤ length d = omega arith in
     let q : n ≤ length b = omega arith in
     let r : n ≤ length s = omega arith in
-    let h : l.i < n = c.loop-i-test.true in
+    let h : l.i < n = omega arith in
     elim c.if-not-is_dropped.branch [
       | then-not-is_dropped w ↦
           let e : dropped_at l.depths l.seconds n l.i ≡ false = sym c.is_dropped.ensures ∙ w.if-not-is_dropped.true in
@@ -36,18 +36,16 @@ loop-i-preserved c =
           let batches_are = w.put_row.ensures.1 in
           let seconds_are = w.put_row.ensures.2 in (
             omega arith,
-            omega arith,
-            v.2,
-            rw (w.depths-is, w.batches-is, w.seconds-is, w.left-is, depths_are, batches_are, seconds_are) (keep_row K l.left d b s l.depths l.batches l.seconds v.3 n l.i p q r h v.1 v.4 e),
-            rw w.left-is (keep_left K l.left d b s l.depths l.batches l.seconds v.3 n l.i p q r h v.1 v.4 e),
+            v.1,
+            rw (w.depths-is, w.batches-is, w.seconds-is, w.left-is, depths_are, batches_are, seconds_are) (keep_row K l.left d b s l.depths l.batches l.seconds v.2 n l.i p q r h v.0 v.3 e),
+            rw w.left-is (keep_left K l.left d b s l.depths l.batches l.seconds v.2 n l.i p q r h v.0 v.3 e),
           )
       | else-not-is_dropped w ↦
           let e : dropped_at l.depths l.seconds n l.i ≡ true = sym c.is_dropped.ensures ∙ w.if-not-is_dropped.false in (
             omega arith,
-            omega arith,
-            v.2,
-            rw (w.depths-is, w.batches-is, w.seconds-is, w.left-is) v.3,
-            rw w.left-is (drop_left K l.left d b s l.depths l.batches l.seconds v.3 n l.i p q r h v.1 v.4 e),
+            v.1,
+            rw (w.depths-is, w.batches-is, w.seconds-is, w.left-is) v.2,
+            rw w.left-is (drop_left K l.left d b s l.depths l.batches l.seconds v.2 n l.i p q r h v.0 v.3 e),
           )
     ]
 
@@ -60,8 +58,8 @@ returns-clause-value c =
     let s = a.seconds.now in
     let n = c.count-n.result in
     let K = kept (zip n d b s) in
-    let rest : drop c.loop-i.left K ≡ [] = v.4 ∙ kept_none (zip n d b s) c.loop-i.i (omega (arith, zip_length n d b s (omega arith) (omega arith) (omega arith))) in
-    rw (← table_is a.rows n d b s v.2) (all_count K c.loop-i.left d b s c.loop-i.depths c.loop-i.batches c.loop-i.seconds v.3 rest)
+    let rest : drop c.loop-i.left K ≡ [] = v.3 ∙ kept_none (zip n d b s) c.loop-i.i (omega (arith, zip_length n d b s (omega arith) (omega arith) (omega arith))) in
+    rw (← table_is a.rows n d b s v.1) (all_count K c.loop-i.left d b s c.loop-i.depths c.loop-i.batches c.loop-i.seconds v.2 rest)
 
 pub returns-clause-written : goal.returns-clause-written
 returns-clause-written c =
@@ -72,5 +70,5 @@ returns-clause-written c =
     let s = a.seconds.now in
     let n = c.count-n.result in
     let K = kept (zip n d b s) in
-    let rest : drop c.loop-i.left K ≡ [] = v.4 ∙ kept_none (zip n d b s) c.loop-i.i (omega (arith, zip_length n d b s (omega arith) (omega arith) (omega arith))) in
-    rw (← table_is a.rows n d b s v.2) (all_done K c.loop-i.left d b s c.loop-i.depths c.loop-i.batches c.loop-i.seconds v.3 rest)
+    let rest : drop c.loop-i.left K ≡ [] = v.3 ∙ kept_none (zip n d b s) c.loop-i.i (omega (arith, zip_length n d b s (omega arith) (omega arith) (omega arith))) in
+    rw (← table_is a.rows n d b s v.1) (all_done K c.loop-i.left d b s c.loop-i.depths c.loop-i.batches c.loop-i.seconds v.2 rest)
