@@ -5,8 +5,8 @@ ghost use Rattle.std.specs.Float.{binary64};
 ghost use Rattle.std.specs.Float.Ieee.{round};
 ghost use Rattle.bank_curve.specs.Curve.{sum_up_to, curve_from};
 
-// A decimal put at a place, and the next place: past the end nothing is put.
-pub fn put_decimal(buffer: &mut [f64], at: usize, value: f64) -> usize
+// A value put at a place, and the next place: past the end nothing is put.
+pub fn put<T: Copy>(buffer: &mut [T], at: usize, value: T) -> usize
     requires { at ≤ length buffer.old }
     ensures next { result ≡ min (at + 1) (length buffer.old) }
     ensures stored { buffer.new ≡ set buffer.old at value }
@@ -18,13 +18,6 @@ pub fn put_decimal(buffer: &mut [f64], at: usize, value: f64) -> usize
     at
 }
 
-// A number of drafts, brought down to a depth.
-pub fn capped(drafts: u32, depth: u32) -> u32
-    ensures { result ≡ min drafts depth }
-{
-    if drafts <= depth { drafts } else { depth }
-}
-
 // The sum of min(commits, g) over the rounds.
 fn sum_up_to(commits: &[u32], g: u32) -> u64
     requires commits_len_bound { length commits.now ≤ 65536 }
@@ -32,10 +25,8 @@ fn sum_up_to(commits: &[u32], g: u32) -> u64
     ensures { result ≡ sum_up_to g commits.now }
 {
     let mut sum = 0u64;
-    let mut at = 0usize;
-    while at < commits.len() {
-        sum += capped(commits[at], g) as u64;
-        at += 1;
+    for drafts in commits {
+        sum += (*drafts).min(g) as u64;
     }
     sum
 }
@@ -59,10 +50,8 @@ pub fn fill_curve(commits: &[u32], depth: u32, curve: &mut [f64])
 {
     let count = commits.len() as u64;
     let mut at = 0usize;
-    let mut g = 0u32;
-    while g <= depth {
+    for g in 0..depth + 1 {
         let value = mean(sum_up_to(commits, g), count);
-        at = put_decimal(curve, at, value);
-        g += 1;
+        at = put(curve, at, value);
     }
 }

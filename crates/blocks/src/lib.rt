@@ -15,6 +15,7 @@ pub fn count(s: &[u8], byte: u8) -> usize
 {
     let mut sum = 0usize;
     let mut rest = s;
+    // no index is counted: each turn takes the rest behind a block, and what is shorter than one is left
     while BLOCK <= rest.len() {
         sum += count_in(&rest[..BLOCK], byte) as usize;
         rest = &rest[BLOCK..];
@@ -28,6 +29,7 @@ pub fn find(s: &[u8], byte: u8) -> usize
 {
     let mut passed = 0usize;
     let mut rest = s;
+    // no index is counted: each turn takes the rest behind a block, and what is shorter than one is left
     while BLOCK <= rest.len() {
         if count_in(&rest[..BLOCK], byte) != 0 {
             return passed + near::find(rest, byte);
@@ -43,6 +45,7 @@ pub fn is_ascii(s: &[u8]) -> bool
     ensures { result ≡ all_ascii s.now }
 {
     let mut rest = s;
+    // no index is counted: each turn takes the rest behind a block, and what is shorter than one is left
     while BLOCK <= rest.len() {
         if high_in(&rest[..BLOCK]) != 0 {
             return false;
@@ -58,12 +61,10 @@ fn count_in(block: &[u8], byte: u8) -> u8
     ensures { result ≡ tally (is_byte byte) block.now }
 {
     let mut sum = 0u8;
-    let mut at = 0usize;
-    while at < block.len() {
-        if block[at] == byte {
+    for b in block {
+        if *b == byte {
             sum += 1;
         }
-        at += 1;
     }
     sum
 }
@@ -74,12 +75,10 @@ fn high_in(block: &[u8]) -> u8
     ensures { result ≡ tally is_high block.now }
 {
     let mut sum = 0u8;
-    let mut at = 0usize;
-    while at < block.len() {
-        if 127 < block[at] {
+    for b in block {
+        if 127 < *b {
             sum += 1;
         }
-        at += 1;
     }
     sum
 }

@@ -6,12 +6,10 @@ ghost use Rattle.blocks.specs.Blocks.{find};
 pub fn find(s: &[u8], byte: u8) -> usize
     ensures { result ≡ find byte s.now }
 {
-    let mut at = 0usize;
-    while at < s.len() {
-        if s[at] == byte {
+    for (at, b) in s.iter().enumerate() {
+        if *b == byte {
             return at;
         }
-        at += 1;
     }
-    at
+    s.len()
 }

@@ -58,18 +58,11 @@ pub fn refill(file: &mut File, room: &mut [u8], from: usize, end: usize) -> usiz
 fn to_front(room: &mut [u8], from: usize, end: usize) -> usize
     ensures { result ≤ length room.new }
 {
-    if room.len() < end {
+    if room.len() < end || end < from {
         return 0;
     }
-    if end < from {
-        return 0;
-    }
-    let mut k = from;
-    while k < end {
-        room[k - from] = room[k];
-        k += 1;
-    }
-    k - from
+    room.copy_within(from..end, 0);
+    end - from
 }
 
 // Reads until the room is full, the file ends or a read fails, and answers how many bytes stand at the room's start.
@@ -77,6 +70,7 @@ pub fn fill(file: &mut File, room: &mut [u8]) -> usize
     ensures { IsPrefixLen result room.new }
 {
     let mut done = 0usize;
+    // no index is counted: each turn goes on by as many bytes as a read brings
     while done < room.len() {
         let more = read_some(file, room, done);
         if more == 0 {

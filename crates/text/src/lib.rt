@@ -65,6 +65,7 @@ pub fn field(s: &[u8], place: usize) -> &[u8]
 {
     let mut rest = s;
     let mut left = place;
+    // no index is counted: each turn takes the rest behind a comma
     loop {
         let comma = near::find(rest, b',');
         if left == 0 {
@@ -86,12 +87,10 @@ pub fn same(a: &[u8], b: &[u8]) -> bool
     if a.len() != b.len() {
         return false;
     }
-    let mut at = 0usize;
-    while at < a.len() {
-        if a[at] != b[at] {
+    for (at, x) in a.iter().enumerate() {
+        if *x != b[at] {
             return false;
         }
-        at += 1;
     }
     true
 }

@@ -1,26 +1,13 @@
--- Laws of trimming: which bytes are blanks, what each turn of a walk from either end does, and what is left. Assumes nothing.
+-- Laws of trimming: what each turn of a walk from either end does, and what is left. Assumes nothing.
 use mathlib.Core.Path.{◌≡◌, refl, sym, ap, ◌∙◌}
 use mathlib.Core.Bool.{Bool, true, false, ◌&&◌, cond}
 use mathlib.Core.List.{List, [], ◌∷◌, ◌++◌, reverse, reverse-cons, reverse-append, reverse-reverse}
 use Prim.Native.Nat.{ℕ, suc, ◌+◌, ◌≤◌, ◌<◌}
 use native.Mathlib.Omega.{arith}
-use borrow.Author.Tests.{le-leb, lt-leb, ne_eqb}
-use lib.Dec.{eqb}
 use lib.ListN.{length, get_or, take, drop}
 use lib.Seq.{take-suc}
 use Rattle.laws.proofs.Lists.{next}
 use Rattle.trimming.specs.Trim.{is_blank, all_blank, front_trimmed, end_trimmed, trimmed}
-
--- ---- which bytes are blanks
-
-pub blank_below : (b : ℕ) → b < 9 → false ≡ is_blank b
-blank_below b h = let n : b ≡ 32 → ⊥ = λ e. omega arith in simp (lt-leb 9 b h, ne_eqb b 32 n)
-
-pub blank_between : (b : ℕ) → 9 ≤ b → b ≤ 13 → true ≡ is_blank b
-blank_between b h k = simp (le-leb 9 b h, le-leb b 13 k)
-
-pub blank_above : (b : ℕ) → 9 ≤ b → 13 < b → eqb b 32 ≡ is_blank b
-blank_above b h k = simp (le-leb 9 b h, lt-leb b 13 k)
 
 -- ---- from the front: the byte at i
 

@@ -15,40 +15,29 @@ pub fn trim(s: &[u8]) -> &[u8]
 fn trim_front(s: &[u8]) -> &[u8]
     ensures { result.now ≡ front_trimmed s.now }
 {
-    let mut at = 0usize;
-    while at < s.len() {
-        if !is_blank(s[at]) {
+    for (at, b) in s.iter().enumerate() {
+        if !is_blank(*b) {
             return &s[at..];
         }
-        at += 1;
     }
-    &s[at..]
+    &s[s.len()..]
 }
 
 // A text up to its last byte that is no blank.
 fn trim_end(s: &[u8]) -> &[u8]
     ensures { result.now ≡ end_trimmed s.now }
 {
-    let mut stop = s.len();
-    while 0 < stop {
-        let last = stop - 1;
+    for last in (0..s.len()).rev() {
         if !is_blank(s[last]) {
-            return &s[..stop];
+            return &s[..last + 1];
         }
-        stop = last;
     }
-    &s[..stop]
+    &s[..0]
 }
 
 // A blank is a tab, LF, VT, FF, CR or a space.
 fn is_blank(byte: u8) -> bool
     ensures { result ≡ is_blank byte }
 {
-    if byte < b'\t' {
-        return false;
-    }
-    if byte <= b'\r' {
-        return true;
-    }
-    byte == b' '
+    matches!(byte, b'\t'..=b'\r' | b' ')
 }

@@ -1,12 +1,8 @@
 -- `trimming::trim_front` meets its contract: at each place the text trimmed is the text from there on, trimmed. Assumes nothing.
 use mathlib.Core.Path.{◌≡◌}
-use Prim.Native.Nat.{◌≤◌, ◌-◌}
-use lib.ListN.{length, drop}
+use lib.ListN.{drop}
 use Rattle.trimming.specs.Trim.{front_trimmed}
 use Rattle.trimming.proofs.trim_front.Given as goal
 
 abbrev pub invariant-loop-at : goal.invariant-loop-at
-invariant-loop-at l = (l.at ≤ length l.s) × (front_trimmed l.s ≡ front_trimmed (drop l.at l.s))
-
-abbrev pub decreases-loop-at : goal.decreases-loop-at
-decreases-loop-at l = length l.s - l.at
+invariant-loop-at l = front_trimmed l.s ≡ front_trimmed (drop l.at l.s)

@@ -1,4 +1,4 @@
--- `bank::filling::fill_curve` meets its contract: at each depth what is to be stored are the entries from there on. Assumes nothing.
+-- `bank_curve::inner::fill_curve` meets its contract: at each depth what is to be stored are the entries from there on. Assumes nothing.
 use mathlib.Core.Path.{◌≡◌, sym, ap, ◌∙◌, subst}
 use mathlib.Core.Bool.{false}
 use mathlib.Core.List.{◌∷◌}
@@ -14,11 +14,9 @@ use Rattle.bank_curve.proofs.inner.fill_curve.Goals as goal
 pub loop-g-init : goal.loop-g-init
 loop-g-init c =
     let a = c.args in
-    let whole : suc a.depth - 0 ≡ suc a.depth = omega arith in (
-      zero-le,
-      subst (λ (n : ℕ). Storing (curve_from 0 (suc a.depth) a.commits.now) a.curve.now 0 a.curve.now 0 (curve_from 0 n a.commits.now)) (sym whole)
-          (storing_begins (curve_from 0 (suc a.depth) a.commits.now) a.curve.now 0 zero-le),
-    )
+    let whole : suc a.depth - 0 ≡ suc a.depth = omega arith in
+    subst (λ (n : ℕ). Storing (curve_from 0 (suc a.depth) a.commits.now) a.curve.now 0 a.curve.now 0 (curve_from 0 n a.commits.now)) (sym whole)
+    (storing_begins (curve_from 0 (suc a.depth) a.commits.now) a.curve.now 0 zero-le)
 
 pub mean-value-requires-clause-sum_bound : goal.mean-value-requires-clause-sum_bound
 mean-value-requires-clause-sum_bound c = let a = c.args in
@@ -31,11 +29,10 @@ loop-g-preserved c =
     let sum = c.sum_up_to in
     let m = c.mean-value in
     let rest = curve_from (l.g + 1) (suc a.depth - (l.g + 1)) a.commits.now in
+    let low : l.g ≤ a.depth = omega arith in
     let entry : m.result ≡ round binary64 false (sum_up_to l.g a.commits.now) (length a.commits.now) =
-    m.ensures ∙ ap (λ (s : ℕ). round binary64 false s (length a.commits.now)) sum.ensures in (
-      omega arith,
-      storing_next (curve_from 0 (suc a.depth) a.commits.now) a.curve.now 0 l.curve l.at c.put_decimal-at.new.buffer c.put_decimal-at.result m.result rest c.put_decimal-at.ensures.stored c.put_decimal-at.ensures.next
-          (subst (Storing (curve_from 0 (suc a.depth) a.commits.now) a.curve.now 0 l.curve l.at)
-          (curve_next l.g a.depth a.commits.now c.loop-g-test.true ∙ ap (λ (x : Float). x ∷ rest) (sym entry))
-          l.invariant.1),
-    )
+    m.ensures ∙ ap (λ (s : ℕ). round binary64 false s (length a.commits.now)) sum.ensures in
+    storing_next (curve_from 0 (suc a.depth) a.commits.now) a.curve.now 0 l.curve l.at c.put-at.new.buffer c.put-at.result m.result rest c.put-at.ensures.stored c.put-at.ensures.next
+    (subst (Storing (curve_from 0 (suc a.depth) a.commits.now) a.curve.now 0 l.curve l.at)
+    (curve_next l.g a.depth a.commits.now low ∙ ap (λ (x : Float). x ∷ rest) (sym entry))
+    l.invariant)
