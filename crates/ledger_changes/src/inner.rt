@@ -1,5 +1,5 @@
 // The newest changes, each in its slot with what it takes to take it back. The slots stand in a ring: the newest change goes over the oldest.
-ghost use Rattle.std.specs.Prelude.{◌≡◌, ◌+◌, ◌<◌, ◌≤◌, min, length, set};
+ghost use Rattle.std.specs.Prelude.{◌≡◌, ◌+◌, ◌<◌, ◌≤◌, length, set};
 ghost use Rattle.ledger_rows.specs.Layout.{room, changes_most, change_wide, workers_from, available, next_slot};
 ghost use Rattle.ledger_changes.specs.Changes.{following, newest_slot, newest_at, pushed, popped, step_back, record_back, worker_back};
 
@@ -14,8 +14,7 @@ pub fn kept(words: &[u64]) -> usize
     requires { room ≤ length words.now }
     ensures { result ≡ available words.now }
 {
-    let n = words[2] as usize;
-    if n < CHANGES_MOST { n } else { CHANGES_MOST }
+    (words[2] as usize).min(CHANGES_MOST)
 }
 
 // The slot of the next change: the last at most, whatever the word says.
@@ -23,27 +22,11 @@ fn next_slot(words: &[u64]) -> usize
     requires { room ≤ length words.now }
     ensures { result ≡ next_slot words.now }
 {
-    let slot = words[3] as usize;
-    if slot < CHANGES_MOST {
-        slot
-    } else {
-        CHANGES_MOST - 1
-    }
-}
-
-// One withdrawal more, up to CHANGES_MOST.
-fn one_more(before: usize) -> usize
-    requires { before ≤ changes_most }
-    ensures { result ≡ min (before + 1) changes_most }
-{
-    if before < CHANGES_MOST {
-        before + 1
-    } else {
-        CHANGES_MOST
-    }
+    (words[3] as usize).min(CHANGES_MOST - 1)
 }
 
 // The slot after one; the first comes after the last.
+#[tactic(auto, unfolding(crate::specs::Changes::following))]
 fn slot_after(slot: usize) -> usize
     requires { slot < changes_most }
     ensures { result ≡ following slot }
@@ -53,6 +36,7 @@ fn slot_after(slot: usize) -> usize
 }
 
 // The slot of the newest change.
+#[tactic(auto, unfolding(crate::specs::Changes::newest_slot, crate::specs::Changes::preceding))]
 fn newest_slot(words: &[u64]) -> usize
     requires { room ≤ length words.now }
     ensures { (result ≡ newest_slot words.now) × (result < changes_most) }
@@ -79,11 +63,12 @@ fn note(words: &mut [u64], left: usize, slot: usize)
 }
 
 // A change kept as the newest; the oldest of CHANGES_MOST falls out.
+#[tactic(auto, unfolding(crate::specs::Changes::pushed))]
 pub fn push(words: &mut [u64], change: &[u64])
     requires { (length change.now ≡ change_wide) × (room ≤ length words.old) }
     ensures { words.new ≡ pushed words.old change.now }
 {
-    let left = one_more(kept(words));
+    let left = (kept(words) + 1).min(CHANGES_MOST);
     let slot = next_slot(words);
     let next = slot_after(slot);
     inner::put(words, CHANGES + CHANGE * slot, change);
@@ -91,6 +76,7 @@ pub fn push(words: &mut [u64], change: &[u64])
 }
 
 // The newest of `before` changes no longer kept: its slot is free, and the next change's.
+#[tactic(auto, unfolding(crate::specs::Changes::popped))]
 pub fn pop(words: &mut [u64], before: usize)
     requires { (0 < before) × (room ≤ length words.old) }
     ensures { words.new ≡ popped words.old before }
@@ -124,6 +110,7 @@ pub fn step_back(words: &mut [u64])
 }
 
 // The change at `at`: its worker put back to the record that it had, if it had one.
+#[tactic(auto, unfolding(crate::specs::Changes::record_back))]
 fn record_back(words: &mut [u64], at: usize, a: u64, b: u64)
     requires { (at + change_wide ≤ workers_from) × (room ≤ length words.old) }
     ensures { words.new ≡ record_back words.old at a b }
@@ -137,6 +124,7 @@ fn record_back(words: &mut [u64], at: usize, a: u64, b: u64)
 }
 
 // The newest change's worker put back to its record from before: none where it was new.
+#[tactic(auto, unfolding(crate::specs::Changes::worker_back))]
 pub fn worker_back(words: &mut [u64])
     requires { room ≤ length words.old }
     ensures { words.new ≡ worker_back words.old }

@@ -1,30 +1,21 @@
 -- Each way out of a function, over plain variables: what the callees gave and the tests taken, and what is returned. Assumes nothing.
 use mathlib.Core.Path.{◌≡◌, ◌∙◌}
 use mathlib.Core.Bool.{Bool, true, false, cond}
-use mathlib.Core.List.{List, [], ◌∷◌}
-use Prim.Native.Nat.{ℕ, zero, suc, ◌+◌, ◌-◌, ◌/◌, ◌≤◌, ◌<◌}
+use mathlib.Core.List.{List}
+use Prim.Native.Nat.{ℕ, zero, suc, ◌-◌, ◌≤◌, ◌<◌}
 use native.Mathlib.Nat.{not-suc-le-zero}
 use native.Mathlib.Numerals.{sub-one}
 use native.Mathlib.Omega.{arith}
 use borrow.Author.Tests.{ltb-true, lt-ltb, le-ltb, eq-eqb, ne_eqb}
 use lib.Dec.{ltb}
-use lib.ListN.{get_or, set}
-use Rattle.ledger_rows.specs.Words.{stored, opened, closed, place, searched, last_first}
+use lib.ListN.{get_or}
+use Rattle.ledger_rows.specs.Words.{searched, last_first}
 use Rattle.ledger_rows.proofs.Tests.{both}
-use Rattle.ledger_rows.proofs.Search.{turn_up, last_within}
+use Rattle.ledger_rows.proofs.Search.{last_within}
 use Rattle.ledger_rows.specs.declared.layout.Place.{Place}
 use Rattle.ledger_rows.specs.declared.layout.Step.{Step}
-use Rattle.ledger_rows.specs.Layout.{seconds_most, second_at, seconds_held, drafts_in, sequences_in, committed_in, steps_in, plus}
+use Rattle.ledger_rows.specs.Layout.{second_at, seconds_held}
 use Rattle.ledger_seconds.specs.Seconds.{earlier_second, that_second, second_row, second_place, second_raised, second_inserted, step_added, second_lowered, step_removed}
-
--- ---- a turn of the search upward, its step added up once
-
-pub turn_step : (early : ℕ → Bool) (low width : ℕ) → 0 < width → early (low + width / 2) ≡ true
-    → place width early low width ≡ place (width - (width / 2 + 1)) early (low + (width / 2 + 1)) (width - (width / 2 + 1))
-turn_step early low width h k =
-    let up : low + width / 2 + 1 ≡ low + (width / 2 + 1) = omega arith in
-    let less : width - width / 2 - 1 ≡ width - (width / 2 + 1) = omega arith in
-    turn_up early low width h k ∙ rw (up, less)
 
 -- ---- the last row looked at first
 
@@ -112,29 +103,3 @@ module _ (ws : List ℕ) (step : Step) where
   pub removed_unknown : (p : Place) → p ≡ second_place ws step.second → p.known ≡ false → ws ≡ step_removed ws step
   unfolding step_removed
   removed_unknown p is k = rw (← is, k)
-
-  module _ (i : ℕ) (last : List ℕ) where
-    pub raised_done : (d s c n : ℕ) → d ≡ plus (get_or ws (second_at i + drafts_in) 0) step.drafts → s ≡ plus (get_or ws (second_at i + sequences_in) 0) step.sequences
-        → c ≡ plus (get_or ws (second_at i + committed_in) 0) step.committed → n ≡ plus (get_or ws (second_at i + steps_in) 0) 1
-        → last ≡ stored (second_at i) (step.second ∷ d ∷ s ∷ c ∷ n ∷ []) ws → last ≡ second_raised ws i step
-    unfolding second_raised
-    raised_done d s c n e f h g l = rw (l, e, f, h, g)
-
-    pub inserted_done : (n : ℕ) → n < seconds_most → last ≡ opened (second_at i) (second_at n) (step.second ∷ step.drafts ∷ step.sequences ∷ step.committed ∷ 1 ∷ []) ws
-        → set last 0 (n + 1) ≡ second_inserted ws i n step
-    unfolding second_inserted
-    inserted_done n few l = rw (lt-ltb n seconds_most few, l)
-
-    pub lowered_some : (n d s c : ℕ) → 1 < get_or ws (second_at i + steps_in) 0 → d ≡ get_or ws (second_at i + drafts_in) 0 - step.drafts → s ≡ get_or ws (second_at i + sequences_in) 0 - step.sequences
-        → c ≡ get_or ws (second_at i + committed_in) 0 - step.committed
-        → last ≡ stored (second_at i) (step.second ∷ d ∷ s ∷ c ∷ (get_or ws (second_at i + steps_in) 0 - 1) ∷ []) ws → last ≡ second_lowered ws i n step
-    unfolding second_lowered
-    lowered_some n d s c more e f g l = rw (lt-ltb _ _ more, l, e, f, g)
-
-    pub lowered_last : (n : ℕ) → get_or ws (second_at i + steps_in) 0 ≤ 1 → last ≡ closed (second_at i) (second_at (n - 1)) (0 ∷ 0 ∷ 0 ∷ 0 ∷ 0 ∷ []) ws → set last 0 (n - 1) ≡ second_lowered ws i n step
-    unfolding second_lowered
-    lowered_last n one l = rw (le-ltb _ _ one, l)
-
-  pub inserted_full : (i n : ℕ) → seconds_most ≤ n → ws ≡ second_inserted ws i n step
-  unfolding second_inserted
-  inserted_full i n many = rw (le-ltb n seconds_most many)

@@ -1,7 +1,7 @@
 // The seconds held, ascending, each with its sums.
-ghost use Rattle.std.specs.Prelude.{◌≡◌, cond, false, ◌+◌, ◌-◌, ◌≤◌, ◌<◌, ltb, length, get_or};
+ghost use Rattle.std.specs.Prelude.{◌≡◌, cond, false, ◌+◌, ◌≤◌, ◌<◌, ltb, length, get_or};
 ghost use Rattle.ledger_rows.specs.Words.{searched};
-ghost use Rattle.ledger_rows.specs.Layout.{room, second_wide, seconds_most, seconds_held, second_at, steps_in, plus};
+ghost use Rattle.ledger_rows.specs.Layout.{room, second_wide, seconds_most, seconds_held, second_at, steps_in};
 ghost use Rattle.ledger_seconds.specs.Seconds.{earlier_second, that_second, second_place, second_raised, second_inserted, step_added, second_lowered, step_removed};
 
 use ledger_rows::inner;
@@ -9,15 +9,12 @@ use ledger_rows::layout::{
     COMMITTED, DRAFTS, Place, SECOND, SECONDS, SECONDS_MOST, SEQUENCES, STEPS, Step,
 };
 
-const LARGEST: u64 = 0xffff_ffff_ffff_ffff;
-
 // The number of seconds held: at most SECONDS_MOST, whatever the word says.
 pub fn held(words: &[u64]) -> usize
     requires { room ≤ length words.now }
     ensures { result ≡ seconds_held words.now }
 {
-    let n = words[0] as usize;
-    if n < SECONDS_MOST { n } else { SECONDS_MOST }
+    (words[0] as usize).min(SECONDS_MOST)
 }
 
 // How many of the first `rows` seconds are earlier than `second`: a search by halves. The step is added up once for both numbers, so that the test
@@ -28,6 +25,7 @@ fn count_earlier(words: &[u64], rows: usize, second: u64) -> usize
 {
     let mut low = 0;
     let mut width = rows;
+    // no index is counted: each turn leaves one half of the rows
     while 0 < width {
         let half = width / 2;
         let step = half + 1;
@@ -47,12 +45,7 @@ fn is_that(words: &[u64], row: usize, rows: usize, second: u64) -> bool
     requires { (rows ≤ seconds_most) × (room ≤ length words.now) }
     ensures { result ≡ cond (ltb row rows) (that_second words.now second row) false }
 {
-    if row < rows {
-        let at = SECONDS + SECOND * row;
-        words[at] == second
-    } else {
-        false
-    }
+    row < rows && words[SECONDS + SECOND * row] == second
 }
 
 // Where a second is held or belongs. The newest second is looked at first.
@@ -98,42 +91,25 @@ pub fn steps(words: &[u64], row: usize) -> u64
     words[at + STEPS]
 }
 
-// A sum that stops at the largest word.
-fn sum_of(x: u64, y: u64) -> u64
-    ensures { result ≡ plus x y }
-{
-    let left = LARGEST - x;
-    if y <= left { x + y } else { LARGEST }
-}
-
-// The rest of a number after another is taken away; 0 where that is more.
-fn rest_of(x: u64, y: u64) -> u64
-    ensures { result ≡ x - y }
-{
-    if y <= x { x - y } else { 0 }
-}
-
 // Row `row`, of the step's second, with that step more.
+#[tactic(auto, unfolding(crate::specs::Seconds::second_raised))]
 fn raise(words: &mut [u64], row: usize, step: Step)
     requires { second_at row + second_wide ≤ length words.old }
     ensures { words.new ≡ second_raised words.old row step }
 {
     let at = SECONDS + SECOND * row;
-    let more_drafts = sum_of(words[at + DRAFTS], step.drafts);
-    let more_sequences = sum_of(words[at + SEQUENCES], step.sequences);
-    let more_committed = sum_of(words[at + COMMITTED], step.committed);
-    let more_steps = sum_of(words[at + STEPS], 1);
     let more = [
         step.second,
-        more_drafts,
-        more_sequences,
-        more_committed,
-        more_steps,
+        words[at + DRAFTS].saturating_add(step.drafts),
+        words[at + SEQUENCES].saturating_add(step.sequences),
+        words[at + COMMITTED].saturating_add(step.committed),
+        words[at + STEPS].saturating_add(1),
     ];
     inner::put(words, at, &more);
 }
 
 // A new row before row `row` of `rows`, unless as many are held as there may be.
+#[tactic(auto, unfolding(crate::specs::Seconds::second_inserted))]
 fn insert(words: &mut [u64], row: usize, rows: usize, step: Step)
     requires { (row ≤ rows) × (room ≤ length words.old) }
     ensures { words.new ≡ second_inserted words.old row rows step }
@@ -148,16 +124,15 @@ fn insert(words: &mut [u64], row: usize, rows: usize, step: Step)
 }
 
 // The sums of the step's second, whose place was found, with that step more; a second that is not held is put in there.
+#[tactic(auto, unfolding(crate::specs::Seconds::step_added), using(crate::proofs::Ways::second_within))]
 pub fn add_step(words: &mut [u64], found: Place, step: Step)
     requires { (found ≡ second_place words.old step.second) × (room ≤ length words.old) }
     ensures { words.new ≡ step_added words.old step }
 {
-    let row = found.row;
-    let rows = found.rows;
     if found.known {
-        raise(words, row, step);
+        raise(words, found.row, step);
     } else {
-        insert(words, row, rows, step);
+        insert(words, found.row, found.rows, step);
     }
 }
 
@@ -170,14 +145,11 @@ fn lower(words: &mut [u64], row: usize, rows: usize, step: Step)
     let at = SECONDS + SECOND * row;
     let steps = words[at + STEPS];
     if 1 < steps {
-        let less_drafts = rest_of(words[at + DRAFTS], step.drafts);
-        let less_sequences = rest_of(words[at + SEQUENCES], step.sequences);
-        let less_committed = rest_of(words[at + COMMITTED], step.committed);
         let less = [
             step.second,
-            less_drafts,
-            less_sequences,
-            less_committed,
+            words[at + DRAFTS].saturating_sub(step.drafts),
+            words[at + SEQUENCES].saturating_sub(step.sequences),
+            words[at + COMMITTED].saturating_sub(step.committed),
             steps - 1,
         ];
         inner::put(words, at, &less);
@@ -190,14 +162,13 @@ fn lower(words: &mut [u64], row: usize, rows: usize, step: Step)
 }
 
 // What a step added is taken away again from its second, if that is held.
+#[tactic(auto, unfolding(crate::specs::Seconds::step_removed))]
 pub fn remove_step(words: &mut [u64], step: Step)
     requires { room ≤ length words.old }
     ensures { words.new ≡ step_removed words.old step }
 {
     let found = place(words, step.second);
-    let row = found.row;
-    let rows = found.rows;
     if found.known {
-        lower(words, row, rows, step);
+        lower(words, found.row, found.rows, step);
     }
 }

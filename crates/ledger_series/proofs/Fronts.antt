@@ -1,5 +1,5 @@
 -- The first values of a rule: how many, one more, and a buffer with them at its front. Assumes nothing.
-use Rattle.std.proofs.Common.{◌≡◌, ℕ, zero, suc, ◌+◌, ◌<◌, ◌≤◌, List, [], ◌∷◌, length, get_or, take, drop, set, sym, refl, ◌∙◌, le_trans, add-one, arith, length-append, length-set, drop-cons, take-suc}
+use Rattle.std.proofs.Common.{◌≡◌, ℕ, zero, suc, ◌+◌, ◌<◌, ◌≤◌, List, [], ◌∷◌, length, get_or, take, drop, set, sym, refl, ◌∙◌, le_trans, add-one, arith, length-append, drop-cons, take-suc}
 use native.Mathlib.Nat.{le-suc}
 use lib.Seq.{set_at, append_snoc, take-length}
 use Rattle.ledger_series.specs.Series.{up_to, front}
@@ -24,11 +24,8 @@ module _ {A : Type 0} (f : ℕ → A) where
   unfolding front up_to
   front_none old = refl
 
-  pub front_more : (d : A) (old now last : List A) (n : ℕ) (x : A) → n < length old → length now ≡ length old → now ≡ front f n old → last ≡ set now n x → x ≡ f n
-      → (length last ≡ length old) × (last ≡ front f (n + 1) old)
+  pub front_more : (old now last : List A) (n : ℕ) (x : A) → n < length old → now ≡ front f n old → last ≡ set now n x → x ≡ f n → last ≡ front f (n + 1) old
   unfolding front up_to
-  front_more d old now last n x h m e l v = (
-    rw (l, length-set) m,
-    rw (l, e, v, add-one, drop-cons old n d h, set_at (up_to f n) (get_or old n d) (drop (suc n) old) (f n) n (length_up n))
-        (sym (append_snoc (up_to f n) (f n) (drop (suc n) old))),
-  )
+  front_more old now last n x h e l v =
+      rw (l, e, v, add-one, drop-cons old n x h, set_at (up_to f n) (get_or old n x) (drop (suc n) old) (f n) n (length_up n))
+      (sym (append_snoc (up_to f n) (f n) (drop (suc n) old)))

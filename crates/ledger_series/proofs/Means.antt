@@ -1,19 +1,9 @@
 -- Means, and their sum in order. Assumes nothing.
-use Rattle.std.proofs.Common.{◌≡◌, ℕ, ◌+◌, max, List, [], ◌∷◌, ◌++◌, get_or, refl, add-one, eq-eqb, ne_eqb}
+use Rattle.std.proofs.Common.{◌≡◌, ℕ, ◌+◌, List, [], ◌∷◌, ◌++◌, refl, add-one, eq-eqb, ne_eqb}
 use lib.Ieee.{Float}
-use Rattle.ledger_rows.specs.Layout.{second_at, drafts_in, sequences_in, committed_in, steps_in}
 use Rattle.float.specs.Floats.{f0, plus, over, whole}
-use Rattle.ledger_series.specs.Series.{mean_of, second_of, mean_of_drafts, mean_batch, mean_of_committed, sample_at, up_to, added, figure_of}
+use Rattle.ledger_series.specs.Series.{up_to, added, figure_of}
 use Rattle.ledger_series.proofs.Fronts.{length_up}
-
-pub mean_of_lem : (sum count by : ℕ) (x y : Float) → by ≡ max count 1 → x ≡ whole sum → y ≡ whole by → over x y ≡ mean_of sum count
-mean_of_lem sum count by x y e f g = rw (f, g, e)
-
-pub sample_of : (ws : List ℕ) (i : ℕ) (x y z : Float) → x ≡ mean_of (get_or ws (second_at i + drafts_in) 0) (get_or ws (second_at i + sequences_in) 0) → y ≡ mean_of (get_or ws (second_at i + sequences_in) 0) (get_or ws (second_at i + steps_in) 0)
-    → z ≡ mean_of (get_or ws (second_at i + committed_in) 0) (get_or ws (second_at i + sequences_in) 0)
-    → record { second = get_or ws (second_at i) 0; mean_draft = x; mean_decode_batch = y; mean_committed = z } ≡ sample_at ws i
-unfolding second_of mean_of_drafts mean_batch mean_of_committed
-sample_of ws i x y z e f g = rw (e, f, g)
 
 -- one more
 added_last : (sum : Float) (xs : List Float) (x : Float) → added sum (xs ++ (x ∷ [])) ≡ plus (added sum xs) x

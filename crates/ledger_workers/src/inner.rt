@@ -1,5 +1,5 @@
 // The workers held, ascending by their two numbers, each with its record.
-ghost use Rattle.std.specs.Prelude.{◌≡◌, cond, false, ◌+◌, ◌-◌, ◌≤◌, ◌<◌, ltb, length};
+ghost use Rattle.std.specs.Prelude.{◌≡◌, cond, false, ◌+◌, ◌≤◌, ◌<◌, ltb, length};
 ghost use Rattle.ledger_rows.specs.Words.{searched};
 ghost use Rattle.ledger_rows.specs.Layout.{room, worker_wide, workers_most, workers_held, worker_at};
 ghost use Rattle.ledger_workers.specs.Workers.{earlier_worker, that_worker, worker_place, worker_stored, worker_inserted, worker_put, worker_taken, worker_dropped, past_at, past_of};
@@ -12,8 +12,7 @@ pub fn held(words: &[u64]) -> usize
     requires { room ≤ length words.now }
     ensures { result ≡ workers_held words.now }
 {
-    let n = words[1] as usize;
-    if n < WORKERS_MOST { n } else { WORKERS_MOST }
+    (words[1] as usize).min(WORKERS_MOST)
 }
 
 // Whether the worker of row `row` comes before another: by the first number, then by the second.
@@ -22,11 +21,7 @@ fn is_earlier(words: &[u64], row: usize, a: u64, b: u64) -> bool
     ensures { result ≡ earlier_worker words.now a b row }
 {
     let at = WORKERS + WORKER * row;
-    let first = words[at];
-    if first < a {
-        return true;
-    }
-    if first == a { words[at + 1] < b } else { false }
+    words[at] < a || words[at] == a && words[at + 1] < b
 }
 
 // How many of the first `rows` workers come before a worker: a search by halves.
@@ -36,11 +31,13 @@ fn count_earlier(words: &[u64], rows: usize, a: u64, b: u64) -> usize
 {
     let mut low = 0;
     let mut width = rows;
+    // no index is counted: each turn leaves one half of the rows
     while 0 < width {
         let half = width / 2;
+        let step = half + 1;
         if is_earlier(words, low + half, a, b) {
-            low = low + half + 1;
-            width = width - half - 1;
+            low += step;
+            width -= step;
         } else {
             width = half;
         }
@@ -53,19 +50,11 @@ fn is_that(words: &[u64], row: usize, rows: usize, a: u64, b: u64) -> bool
     requires { (rows ≤ workers_most) × (room ≤ length words.now) }
     ensures { result ≡ cond (ltb row rows) (that_worker words.now a b row) false }
 {
-    if row < rows {
-        let at = WORKERS + WORKER * row;
-        if words[at] == a {
-            words[at + 1] == b
-        } else {
-            false
-        }
-    } else {
-        false
-    }
+    row < rows && words[WORKERS + WORKER * row] == a && words[WORKERS + WORKER * row + 1] == b
 }
 
 // Where a worker is held or belongs.
+#[tactic(auto, unfolding(crate::specs::Workers::worker_place, crate::specs::Workers::worker_row))]
 pub fn place(words: &[u64], a: u64, b: u64) -> Place
     requires { room ≤ length words.now }
     ensures { result ≡ worker_place words.now a b }
@@ -77,6 +66,7 @@ pub fn place(words: &[u64], a: u64, b: u64) -> Place
 }
 
 // The record in row `row`.
+#[tactic(auto, unfolding(crate::specs::Workers::past_at))]
 fn read(words: &[u64], row: usize) -> Past
     requires { (row < workers_most) × (room ≤ length words.now) }
     ensures { result ≡ past_at words.now row }
@@ -94,14 +84,14 @@ fn read(words: &[u64], row: usize) -> Past
 }
 
 // What a worker's record is: kind 2 and the record where it is held, kind 1 where there is none.
+#[tactic(auto, unfolding(crate::specs::Workers::past_of))]
 pub fn past(words: &[u64], a: u64, b: u64) -> Past
     requires { room ≤ length words.now }
     ensures { result ≡ past_of words.now a b }
 {
     let found = place(words, a, b);
-    let row = found.row;
     if found.known {
-        read(words, row)
+        read(words, found.row)
     } else {
         Past {
             kind: 1,
@@ -113,6 +103,7 @@ pub fn past(words: &[u64], a: u64, b: u64) -> Past
 }
 
 // A worker's words stored in row `row`.
+#[tactic(auto, unfolding(crate::specs::Workers::worker_stored))]
 fn store(words: &mut [u64], row: usize, a: u64, b: u64, width: u64, rounds: u64, stall: u64)
     requires { worker_at row + worker_wide ≤ length words.old }
     ensures { words.new ≡ worker_stored words.old row a b width rounds stall }
@@ -123,6 +114,7 @@ fn store(words: &mut [u64], row: usize, a: u64, b: u64, width: u64, rounds: u64,
 }
 
 // A new row before row `row` of `rows`, unless as many are held as there may be.
+#[tactic(auto, unfolding(crate::specs::Workers::worker_inserted))]
 fn insert(
     words: &mut [u64],
     row: usize,
@@ -146,21 +138,21 @@ fn insert(
 }
 
 // A worker's record put in the place of the one that it has, or as its first.
+#[tactic(auto, unfolding(crate::specs::Workers::worker_put), using(crate::proofs::Ways::worker_within))]
 pub fn put(words: &mut [u64], a: u64, b: u64, width: u64, rounds: u64, stall: u64)
     requires { room ≤ length words.old }
     ensures { words.new ≡ worker_put words.old a b width rounds stall }
 {
     let found = place(words, a, b);
-    let row = found.row;
-    let rows = found.rows;
     if found.known {
-        store(words, row, a, b, width, rounds, stall);
+        store(words, found.row, a, b, width, rounds, stall);
     } else {
-        insert(words, row, rows, a, b, width, rounds, stall);
+        insert(words, found.row, found.rows, a, b, width, rounds, stall);
     }
 }
 
 // Row `row` of `rows` taken out.
+#[tactic(auto, unfolding(crate::specs::Workers::worker_taken))]
 fn take(words: &mut [u64], row: usize, rows: usize)
     requires { (row < rows) × (rows ≤ workers_most) × (room ≤ length words.old) }
     ensures { words.new ≡ worker_taken words.old row rows }
@@ -173,14 +165,13 @@ fn take(words: &mut [u64], row: usize, rows: usize)
 }
 
 // A worker no longer held.
+#[tactic(auto, unfolding(crate::specs::Workers::worker_dropped))]
 pub fn drop_worker(words: &mut [u64], a: u64, b: u64)
     requires { room ≤ length words.old }
     ensures { words.new ≡ worker_dropped words.old a b }
 {
     let found = place(words, a, b);
-    let row = found.row;
-    let rows = found.rows;
     if found.known {
-        take(words, row, rows);
+        take(words, found.row, found.rows);
     }
 }
