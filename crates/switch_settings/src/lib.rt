@@ -2,13 +2,26 @@
 #![tactic(auto)]
 
 ghost use Rattle.std.specs.Prelude.{◌≡◌};
-ghost use Rattle.switch_settings.specs.Switch.{is_unconstrained, switch_refusal};
+ghost use Rattle.switch_settings.specs.Switch.{is_unlimited, is_unconstrained, switch_judged};
+
+use refusals::Refusal;
 
 // How many candidates one decision may walk.
 #[derive(Clone, Copy)]
 pub enum MaxStep {
     Unlimited,
     AtMost(u32),
+}
+
+impl MaxStep {
+    fn is_unlimited(self) -> bool
+        ensures { result ≡ is_unlimited self }
+    {
+        match self {
+            MaxStep::Unlimited => true,
+            MaxStep::AtMost(_) => false,
+        }
+    }
 }
 
 #[derive(Clone, Copy)]
@@ -25,24 +38,17 @@ impl SwitchConstraints {
     pub fn is_unconstrained(self) -> bool
         ensures { result ≡ is_unconstrained self }
     {
-        if 1 < self.cooldown_rounds {
-            return false;
-        }
-        let step = self.max_step;
-        match step {
-            MaxStep::Unlimited => self.cost_ms == 0.0,
-            MaxStep::AtMost(_) => false,
-        }
+        self.cooldown_rounds <= 1 && self.max_step.is_unlimited() && self.cost_ms == 0.0
     }
 }
 
-// 12 where a change costs less than nothing or more than an hour; else 0. The other settings may have any value.
-pub fn switch_refusal(switch: SwitchConstraints) -> u64
-    ensures { result ≡ switch_refusal switch }
+// Refused as a setting where a change costs less than nothing or more than an hour. The other settings may have any value.
+pub fn judge_switch(switch: SwitchConstraints) -> Result<(), Refusal>
+    ensures { result ≡ switch_judged switch }
 {
     if float::in_range(switch.cost_ms, 0.0, 3600000.0) {
-        0
+        Ok(())
     } else {
-        12
+        Err(Refusal::Setting)
     }
 }
