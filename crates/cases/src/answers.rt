@@ -2,6 +2,8 @@
 // left out, and the answer is then the room's end.
 ghost use Rattle.std.specs.Prelude.{◌≤◌, length};
 
+use crate::words::Word;
+
 pub fn put(out: &mut [u64], at: usize, word: u64) -> usize
     ensures { result ≤ length out.new }
 {
@@ -15,41 +17,30 @@ pub fn put(out: &mut [u64], at: usize, word: u64) -> usize
 pub fn put_float(out: &mut [u64], at: usize, value: f64) -> usize
     ensures { result ≤ length out.new }
 {
-    put(out, at, float::bits(value))
+    put(out, at, value.word())
+}
+
+// The words of a list, without its length.
+pub fn put_list<T: Word>(out: &mut [u64], at: usize, list: &[T]) -> usize
+    ensures { result ≤ length out.new }
+{
+    let mut next = at.min(out.len());
+    for value in list {
+        next = put(out, next, value.word());
+    }
+    next
 }
 
 pub fn put_whole_numbers(out: &mut [u64], at: usize, list: &[u32]) -> usize
     ensures { result ≤ length out.new }
 {
-    if out.len() < at {
-        return out.len();
-    }
-    let mut next = at;
-    let mut k = 0usize;
-    while k < list.len() {
-        next = put(out, next, wide(list[k]));
-        k += 1;
-    }
-    next
+    put_list(out, at, list)
 }
 
 pub fn put_floats(out: &mut [u64], at: usize, list: &[f64]) -> usize
     ensures { result ≤ length out.new }
 {
-    if out.len() < at {
-        return out.len();
-    }
-    let mut next = at;
-    let mut k = 0usize;
-    while k < list.len() {
-        next = put_float(out, next, list[k]);
-        k += 1;
-    }
-    next
-}
-
-fn wide(n: u32) -> u64 {
-    n as u64
+    put_list(out, at, list)
 }
 
 // A refusal's number alone, or 0 and a value, and so on: each puts the answer from the room's front on.
@@ -62,20 +53,17 @@ pub fn one(out: &mut [u64], first: u64) -> usize
 pub fn two(out: &mut [u64], first: u64, second: u64) -> usize
     ensures { result ≤ length out.new }
 {
-    let at = put(out, 0, first);
-    put(out, at, second)
+    put_list(out, 0, &[first, second])
 }
 
 pub fn three(out: &mut [u64], first: u64, second: u64, third: u64) -> usize
     ensures { result ≤ length out.new }
 {
-    let at = two(out, first, second);
-    put(out, at, third)
+    put_list(out, 0, &[first, second, third])
 }
 
 pub fn four(out: &mut [u64], first: u64, second: u64, third: u64, fourth: u64) -> usize
     ensures { result ≤ length out.new }
 {
-    let at = three(out, first, second, third);
-    put(out, at, fourth)
+    put_list(out, 0, &[first, second, third, fourth])
 }

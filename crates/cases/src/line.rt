@@ -35,10 +35,7 @@ pub fn next(file: &mut File, room: &mut [u8], words: &mut [u64], at: usize, end:
 pub fn agrees(case: Case, words: &[u64], ours: &[u64]) -> bool {
     let inputs = case.inputs;
     let answers = case.answers;
-    if words.len() < inputs {
-        return false;
-    }
-    if words.len() - inputs < answers {
+    if words.len() < inputs || words.len() - inputs < answers {
         return false;
     }
     let end = inputs + answers;
@@ -47,21 +44,12 @@ pub fn agrees(case: Case, words: &[u64], ours: &[u64]) -> bool {
 
 // Whether a whole case starts at a place, in what was read up to an end.
 fn is_whole(room: &[u8], at: usize, end: usize) -> bool {
-    if room.len() < end {
-        return false;
-    }
-    if end < at {
-        return false;
-    }
-    0 < size(&room[at..end])
+    end <= room.len() && at <= end && 0 < size(&room[at..end])
 }
 
 // The case at a place, in what was read up to an end.
 fn case_at(room: &[u8], words: &mut [u64], at: usize, end: usize) -> Case {
-    if room.len() < end {
-        return none(at, end);
-    }
-    if end < at {
+    if room.len() < end || end < at {
         return none(at, end);
     }
     let size = size(&room[at..end]);
@@ -125,8 +113,7 @@ fn size(bytes: &[u8]) -> usize
 fn count(digits: &[u8]) -> usize
     ensures { result < 4294967296 }
 {
-    let spelled = numeral::whole(digits);
-    let numeral::answer::Whole::Value(n) = spelled else {
+    let Ok(n) = numeral::whole(digits) else {
         return 0;
     };
     n as usize

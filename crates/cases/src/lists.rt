@@ -2,7 +2,7 @@
 // to a word, the first the highest.
 ghost use Rattle.std.specs.Prelude.{◌≤◌, length};
 
-use crate::words::{at, float_at, least_at, whole_at};
+use crate::words::{Word, at, least_at};
 
 // Where the words behind a list stand that starts at a place and has so many.
 pub fn behind(words: &[u64], place: usize, count: usize) -> usize
@@ -21,42 +21,32 @@ pub fn behind(words: &[u64], place: usize, count: usize) -> usize
 pub fn whole_numbers(words: &[u64], place: usize, out: &mut [u32]) -> usize
     ensures { result ≤ length out.new }
 {
-    if words.len() <= place {
-        return 0;
-    }
-    first_whole_numbers(&words[place..], out)
-}
-
-fn first_whole_numbers(words: &[u64], out: &mut [u32]) -> usize
-    ensures { result ≤ length out.new }
-{
-    let count = least_at(words, 0, out.len());
-    let mut k = 0usize;
-    while k < count {
-        out[k] = whole_at(words, k + 1);
-        k += 1;
-    }
-    count
+    list(words, place, out)
 }
 
 // The same with the floats whose bits the words are.
 pub fn floats(words: &[u64], place: usize, out: &mut [f64]) -> usize
     ensures { result ≤ length out.new }
 {
+    list(words, place, out)
+}
+
+// The same with whatever the words stand for.
+pub fn list<T: Word>(words: &[u64], place: usize, out: &mut [T]) -> usize
+    ensures { result ≤ length out.new }
+{
     if words.len() <= place {
         return 0;
     }
-    first_floats(&words[place..], out)
+    first_list(&words[place..], out)
 }
 
-fn first_floats(words: &[u64], out: &mut [f64]) -> usize
+fn first_list<T: Word>(words: &[u64], out: &mut [T]) -> usize
     ensures { result ≤ length out.new }
 {
     let count = least_at(words, 0, out.len());
-    let mut k = 0usize;
-    while k < count {
-        out[k] = float_at(words, k + 1);
-        k += 1;
+    for k in 0..count {
+        out[k] = T::of_word(at(words, k + 1));
     }
     count
 }
@@ -75,21 +65,8 @@ fn first_text(words: &[u64], out: &mut [u8]) -> usize
     ensures { result ≤ length out.new }
 {
     let count = least_at(words, 0, out.len());
-    let mut k = 0usize;
-    while k < count {
-        out[k] = byte(at(words, k / 8 + 1), k % 8);
-        k += 1;
+    for k in 0..count {
+        out[k] = at(words, k / 8 + 1).to_be_bytes()[k % 8];
     }
     count
-}
-
-// The byte of a word that has so many before it.
-fn byte(word: u64, before: usize) -> u8 {
-    let mut rest = word;
-    let mut behind = 7usize;
-    while before < behind {
-        rest /= 256;
-        behind -= 1;
-    }
-    (rest % 256) as u8
 }

@@ -1,4 +1,5 @@
 // Two sums over words: of the words, and of the sums up to each word, which tells their places apart.
+use crate::words::Word;
 use std::num::wrapping_add_u64;
 
 #[derive(Clone, Copy)]
@@ -22,42 +23,19 @@ impl Sums {
     }
 
     pub fn and_words(self, words: &[u64]) -> Self {
-        let mut first = self.first;
-        let mut second = self.second;
-        let mut at = 0usize;
-        while at < words.len() {
-            first = wrapping_add_u64(first, words[at]);
-            second = wrapping_add_u64(second, first);
-            at += 1;
-        }
-        Sums { first, second }
-    }
-
-    pub fn and_whole_numbers(self, words: &[u32]) -> Self {
-        let mut first = self.first;
-        let mut second = self.second;
-        let mut at = 0usize;
-        while at < words.len() {
-            first = wrapping_add_u64(first, wide(words[at]));
-            second = wrapping_add_u64(second, first);
-            at += 1;
-        }
-        Sums { first, second }
+        self.and_list(words)
     }
 
     pub fn and_floats(self, words: &[f64]) -> Self {
-        let mut first = self.first;
-        let mut second = self.second;
-        let mut at = 0usize;
-        while at < words.len() {
-            first = wrapping_add_u64(first, float::bits(words[at]));
-            second = wrapping_add_u64(second, first);
-            at += 1;
-        }
-        Sums { first, second }
+        self.and_list(words)
     }
-}
 
-fn wide(n: u32) -> u64 {
-    n as u64
+    // Every word of a list, one after the other.
+    pub fn and_list<T: Word>(self, list: &[T]) -> Self {
+        let mut sums = self;
+        for value in list {
+            sums = sums.and(value.word());
+        }
+        sums
+    }
 }

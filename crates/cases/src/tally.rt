@@ -1,6 +1,7 @@
 // How the cases of a file went, by kind: three counts for each letter, run, refused and differing, one behind the other.
 ghost use Rattle.std.specs.Prelude.{◌≤◌};
 
+use crate::words::at;
 use std::num::wrapping_add_u64;
 
 // As many counts as there are: 26 letters, three each.
@@ -18,13 +19,10 @@ pub fn count(counts: &mut [u64], kind: u8, refused: bool, agrees: bool) {
 fn place_of(kind: u8) -> usize
     ensures { result ≤ 75 }
 {
-    if kind < 97 {
-        return 75;
+    match kind {
+        b'a'..=b'z' => (kind - b'a') as usize * 3,
+        _ => 75,
     }
-    if 122 < kind {
-        return 75;
-    }
-    (kind - 97) as usize * 3
 }
 
 fn add_one(counts: &mut [u64], place: usize, counted: bool) {
@@ -37,13 +35,6 @@ fn add(counts: &mut [u64], place: usize) {
     if place < counts.len() {
         counts[place] = wrapping_add_u64(counts[place], 1);
     }
-}
-
-fn at(counts: &[u64], place: usize) -> u64 {
-    if counts.len() <= place {
-        return 0;
-    }
-    counts[place]
 }
 
 // A line with the counts of a kind, where one of it was run.
@@ -66,16 +57,13 @@ pub fn print_sums(rt: HostRuntime, counts: &[u64]) {
     let _ = rt.write_all(b"\n");
 }
 
-// The sum of every third count from a place on.
+// The sum of the counts at a place of each kind's three.
 fn sum(counts: &[u64], place: usize) -> u64 {
     let mut sum = 0u64;
-    let mut at = place;
-    while at < counts.len() {
-        sum = wrapping_add_u64(sum, counts[at]);
-        if counts.len() - at <= 3 {
-            return sum;
+    for (at, count) in counts.iter().enumerate() {
+        if at % 3 == place {
+            sum = wrapping_add_u64(sum, *count);
         }
-        at += 3;
     }
     sum
 }
