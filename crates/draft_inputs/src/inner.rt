@@ -14,20 +14,11 @@ pub fn is_head(
 ) -> bool
     ensures { result ≡ is_head dense_params expert_params num_experts experts_per_tok shared_experts }
 {
-    if MOST_COUNT < num_experts {
-        return false;
-    }
-    if MOST_COUNT < experts_per_tok {
-        return false;
-    }
-    if MOST_COUNT < shared_experts {
-        return false;
-    }
-    if is_params(dense_params) {
-        is_params(expert_params)
-    } else {
-        false
-    }
+    num_experts <= MOST_COUNT
+        && experts_per_tok <= MOST_COUNT
+        && shared_experts <= MOST_COUNT
+        && is_params(dense_params)
+        && is_params(expert_params)
 }
 
 pub fn is_params(x: f64) -> bool
@@ -40,22 +31,16 @@ pub fn is_params(x: f64) -> bool
 pub fn is_ragged(widths: &[u32], verify_c: f64) -> bool
     ensures { result ≡ (all_widths widths.now && is_verify_cost verify_c) }
 {
-    if are_widths(widths) {
-        float::in_range(verify_c, 0.0, 1e9)
-    } else {
-        false
-    }
+    are_widths(widths) && float::in_range(verify_c, 0.0, 1e9)
 }
 
 pub fn are_widths(widths: &[u32]) -> bool
     ensures { result ≡ all_widths widths.now }
 {
-    let mut k = 0usize;
-    while k < widths.len() {
-        if MOST_GAMMA < widths[k] {
+    for w in widths {
+        if MOST_GAMMA < *w {
             return false;
         }
-        k += 1;
     }
     true
 }
@@ -64,11 +49,8 @@ pub fn are_widths(widths: &[u32]) -> bool
 pub fn are_loaded(loaded: &[f64]) -> bool
     ensures { result ≡ all_loaded loaded.now }
 {
-    let mut k = 0usize;
-    while k < loaded.len() {
-        if float::in_range(loaded[k], 0.0, 1e6) {
-            k += 1;
-        } else {
+    for x in loaded {
+        if !float::in_range(*x, 0.0, 1e6) {
             return false;
         }
     }
@@ -94,12 +76,8 @@ pub fn largest_of(widths: &[u32]) -> u32
     ensures { result ≡ largest widths.now }
 {
     let mut m = 0u32;
-    let mut i = 0usize;
-    while i < widths.len() {
-        if m < widths[i] {
-            m = widths[i];
-        }
-        i += 1;
+    for w in widths {
+        m = m.max(*w);
     }
     m
 }
@@ -110,12 +88,10 @@ pub fn still_drafting(widths: &[u32], k: u32) -> u32
     ensures { result ≡ still_drafting widths.now k }
 {
     let mut n = 0u32;
-    let mut i = 0usize;
-    while i < widths.len() {
-        if k <= widths[i] {
+    for w in widths {
+        if k <= *w {
             n += 1;
         }
-        i += 1;
     }
     n
 }

@@ -1,12 +1,9 @@
 -- `inner::still_drafting` meets its contract: what was counted and the count of what is left make the whole. Assumes nothing.
 use mathlib.Core.Path.{◌≡◌}
-use Prim.Native.Nat.{◌≤◌, ◌+◌, ◌-◌}
-use lib.ListN.{length, drop}
+use Prim.Native.Nat.{◌≤◌, ◌+◌}
+use lib.ListN.{drop}
 use Rattle.draft_inputs.specs.Inputs.{still_drafting}
 use Rattle.draft_inputs.proofs.inner.still_drafting.Given as goal
 
-abbrev pub invariant-loop-i : goal.invariant-loop-i
-invariant-loop-i l = (l.i ≤ length l.widths) × ((l.n ≤ l.i) × (l.n + still_drafting (drop l.i l.widths) l.k ≡ still_drafting l.widths l.k))
-
-abbrev pub decreases-loop-i : goal.decreases-loop-i
-decreases-loop-i l = length l.widths - l.i
+abbrev pub invariant-loop-w : goal.invariant-loop-w
+invariant-loop-w l = (l.n ≤ l.w-index) × (l.n + still_drafting (drop l.w-index l.widths) l.k ≡ still_drafting l.widths l.k)
