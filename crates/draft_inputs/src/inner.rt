@@ -72,6 +72,7 @@ pub fn entries_refusal(batch: usize, loaded: &[f64]) -> u64
 }
 
 // The largest width, and 0 of none.
+#[tactic(auto, using(crate::proofs::Inputs::largest_next, crate::proofs::Inputs::largest_end))]
 pub fn largest_of(widths: &[u32]) -> u32
     ensures { result ≡ largest widths.now }
 {
@@ -83,6 +84,7 @@ pub fn largest_of(widths: &[u32]) -> u32
 }
 
 // How many widths are k or more.
+#[tactic(auto, using(crate::proofs::Inputs::counts, crate::proofs::Inputs::passes, crate::proofs::Inputs::counted_end))]
 pub fn still_drafting(widths: &[u32], k: u32) -> u32
     requires { length widths.now ≤ 1024 }
     ensures { result ≡ still_drafting widths.now k }

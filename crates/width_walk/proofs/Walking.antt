@@ -1,17 +1,17 @@
--- The walk: each way through the code. Assumes nothing.
-use mathlib.Core.Path.{◌≡◌, refl, sym, ap, ◌∙◌}
+-- The walk: each turn of the search, and that it stays within the list. Assumes nothing.
+use mathlib.Core.Path.{◌≡◌}
 use mathlib.Core.Bool.{Bool, true, false, cond}
-use mathlib.Core.List.{List, [], ◌∷◌}
+use mathlib.Core.List.{List}
 use Prim.Native.Nat.{ℕ, suc, ◌+◌, ◌-◌, ◌≤◌, ◌<◌, min, max}
 use native.Mathlib.Numerals.{add-one}
 use native.Mathlib.Omega.{arith}
 use lib.Dec.{ltb}
 use lib.ListN.{length, get_or, drop, drop_of_length-le}
 use lib.Seq.{drop-cons}
-use borrow.Author.Tests.{le-leb, lt-leb, lt-ltb, le-ltb, eq-eqb, ne_eqb}
+use borrow.Author.Tests.{le-leb, lt-leb}
 use Rattle.switch_settings.specs.declared.MaxStep.{MaxStep}
 use Rattle.switch_settings.specs.declared.MaxStep.TheVariants.{Unlimited, AtMost}
-use Rattle.width_walk.specs.Walk.{first_at_least, snap_index, target_index, walk_index, walk_candidates}
+use Rattle.width_walk.specs.Walk.{first_at_least, walk_index}
 
 -- ---- the first that is x or larger: found at i, not yet, and nothing left
 module _ (l : List ℕ) (x i : ℕ) where
@@ -27,38 +27,6 @@ module _ (l : List ℕ) (x i : ℕ) where
   unfolding first_at_least
   nothing h = rw (drop_of_length-le l h)
 
--- ---- the snapped index
-pub snapped : (l : List ℕ) (width i : ℕ) → i ≡ first_at_least l width → i < length l → i ≡ snap_index l width
-snapped l width i e h = omega arith
-
-pub snapped_last : (l : List ℕ) (width i : ℕ) → i ≡ first_at_least l width → length l ≤ i → length l - 1 ≡ snap_index l width
-snapped_last l width i e h = omega arith
-
--- ---- the target's index
-module _ (l : List ℕ) (target i snap : ℕ) (e : i ≡ first_at_least l target) where
-  pub hit : i < length l → get_or l i 0 ≡ target → i ≡ target_index l target snap
-  hit h k = simp (sym e, lt-ltb i (length l) h, eq-eqb (get_or l i 0) target k)
-
-  pub miss : i < length l → (get_or l i 0 ≡ target → ⊥) → snap ≡ target_index l target snap
-  miss h k = simp (sym e, lt-ltb i (length l) h, ne_eqb (get_or l i 0) target k)
-
-  pub past : length l ≤ i → snap ≡ target_index l target snap
-  past h = simp (sym e, le-ltb i (length l) h)
-
--- ---- so many indices
-module _ (at to d : ℕ) (step : MaxStep) (e : step ≡ AtMost d) where
-  pub up_some : at < to → d < to - at → at + d ≡ walk_index at to step
-  up_some h k = rw (e, lt-ltb at to h) (omega arith)
-
-  pub up_all : at < to → to - at ≤ d → to ≡ walk_index at to step
-  up_all h k = rw (e, lt-ltb at to h) (omega arith)
-
-  pub down_some : to ≤ at → d < at - to → at - d ≡ walk_index at to step
-  down_some h k = rw (e, le-ltb at to h) (omega arith)
-
-  pub down_all : to ≤ at → at - to ≤ d → to ≡ walk_index at to step
-  down_all h k = rw (e, le-ltb at to h) (omega arith)
-
 -- ---- the walk stays within the list
 pub walk_within : (at to n : ℕ) (step : MaxStep) → at < n → to < n → walk_index at to step < n
 walk_within at to n Unlimited h k = k
@@ -67,15 +35,3 @@ walk_within at to n (AtMost d) h k = go (ltb at to)
     go : (b : Bool) → cond b (min (at + d) to) (max (at - d) to) < n
     go true = omega arith
     go false = omega arith
-
--- ---- the whole
-pub stays : (l : List ℕ) (width target : ℕ) (step : MaxStep) → length l ≡ 0 → width ≡ walk_candidates l width target step
-stays [] width target step h = refl
-stays (c ∷ cs) width target step h = absurd (let w : ⊥ = omega arith in w)
-
-pub walked_to : (l : List ℕ) (width target : ℕ) (step : MaxStep) (at to next : ℕ) → at < length l
-    → at ≡ snap_index l width → to ≡ target_index l target at → next ≡ walk_index at to step → get_or l next 0 ≡ walk_candidates l width target step
-walked_to [] width target step at to next h a t w = absurd (let z : ⊥ = omega arith in z)
-walked_to (c ∷ cs) width target step at to next h a t w =
-    ap (λ (i : ℕ). get_or (c ∷ cs) i 0)
-    (w ∙ ap (λ (x : ℕ). walk_index at x step) t ∙ ap (λ (x : ℕ). walk_index x (target_index (c ∷ cs) target x) step) a)

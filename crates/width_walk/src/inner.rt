@@ -5,18 +5,17 @@ ghost use Rattle.width_walk.specs.Walk.{first_at_least, snap_index, target_index
 use switch_settings::MaxStep;
 
 // The index of the first candidate that is x or larger, and the number of candidates where there is none.
+#[tactic(auto, using(crate::proofs::Walking::found, crate::proofs::Walking::onward, crate::proofs::Walking::nothing))]
 pub fn first_at_least(candidates: &[u32], x: u32) -> usize
     ensures value { result ≡ first_at_least candidates.now x }
     ensures upper_bound { result ≤ length candidates.now }
 {
-    let mut i = 0usize;
-    while i < candidates.len() {
-        if x <= candidates[i] {
+    for (i, c) in candidates.iter().enumerate() {
+        if x <= *c {
             return i;
         }
-        i += 1;
     }
-    i
+    candidates.len()
 }
 
 // The held width's index, or the next larger candidate's, or the last.
@@ -25,12 +24,7 @@ pub fn snap_index(candidates: &[u32], width: u32) -> usize
     ensures value { result ≡ snap_index candidates.now width }
     ensures upper_bound { result < length candidates.now }
 {
-    let i = first_at_least(candidates, width);
-    if i < candidates.len() {
-        i
-    } else {
-        candidates.len() - 1
-    }
+    first_at_least(candidates, width).min(candidates.len() - 1)
 }
 
 // The target's index; where it is no candidate, `snap`.
@@ -40,12 +34,11 @@ pub fn target_index(candidates: &[u32], target: u32, snap: usize) -> usize
     ensures upper_bound { result < length candidates.now }
 {
     let i = first_at_least(candidates, target);
-    if i < candidates.len() {
-        if candidates[i] == target {
-            return i;
-        }
+    if i < candidates.len() && candidates[i] == target {
+        i
+    } else {
+        snap
     }
-    snap
 }
 
 // From index `at` toward `to`, at most as many indices as the step allows.
@@ -57,9 +50,9 @@ pub fn walk_index(at: usize, to: usize, step: MaxStep) -> usize
         MaxStep::AtMost(d) => {
             let far = d as usize;
             if at < to {
-                if far < to - at { at + far } else { to }
+                at + far.min(to - at)
             } else {
-                if far < at - to { at - far } else { to }
+                at - far.min(at - to)
             }
         }
     }

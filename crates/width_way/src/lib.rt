@@ -28,28 +28,14 @@ fn is_candidate(candidates: &[u32], target: u32) -> bool
     ensures { result ≡ is_candidate candidates.now target }
 {
     let i = width_walk::inner::first_at_least(candidates, target);
-    if i < candidates.len() {
-        candidates[i] == target
-    } else {
-        false
-    }
+    i < candidates.len() && candidates[i] == target
 }
 
 // Whether a walk goes no candidate far.
 fn stands_still(step: MaxStep) -> bool
     ensures { result ≡ stands_still step }
 {
-    match step {
-        MaxStep::Unlimited => false,
-        MaxStep::AtMost(d) => d == 0,
-    }
-}
-
-// How far two indices lie apart.
-fn distance(a: usize, b: usize) -> usize
-    ensures { result ≡ distance a b }
-{
-    if a < b { b - a } else { a - b }
+    matches!(step, MaxStep::AtMost(0))
 }
 
 // The walks over so many candidates, d at a time.
@@ -60,7 +46,7 @@ fn walks_of(away: u32, d: u32) -> u32
 {
     let far = d as u64;
     let walks = (away as u64 + (far - 1)) / far;
-    if walks < 1 { 1 } else { walks as u32 }
+    walks.max(1) as u32
 }
 
 // The walks from one index to another, at most.
@@ -72,10 +58,7 @@ fn walks(at: usize, to: usize, step: MaxStep) -> u32
 {
     match step {
         MaxStep::Unlimited => 1,
-        MaxStep::AtMost(d) => {
-            let away = distance(at, to);
-            walks_of(away as u32, d)
-        }
+        MaxStep::AtMost(d) => walks_of(at.abs_diff(to) as u32, d),
     }
 }
 
@@ -86,12 +69,9 @@ fn follow(candidates: &[u32], at: usize, to: usize, step: MaxStep, walks: usize,
     ensures { widths.new ≡ way_from step candidates.now to at walks ++ drop walks widths.old }
 {
     let mut i = at;
-    let mut k = 0usize;
-    while k < walks {
-        let next = width_walk::inner::walk_index(i, to, step);
-        widths[k] = candidates[next];
-        i = next;
-        k += 1;
+    for k in 0..walks {
+        i = width_walk::inner::walk_index(i, to, step);
+        widths[k] = candidates[i];
     }
 }
 
@@ -100,8 +80,7 @@ fn pause(constraints: SwitchConstraints) -> u64
     ensures value { result ≡ pause constraints }
     ensures upper_bound { result ≤ 4294967295 }
 {
-    let cooldown = constraints.cooldown_rounds;
-    if cooldown < 1 { 1 } else { cooldown as u64 }
+    constraints.cooldown_rounds.max(1) as u64
 }
 
 // The way of a width to a target that it comes to.
@@ -126,6 +105,7 @@ fn within(
 }
 
 // What becomes of a width among these candidates; the widths on its way stand at the front of `widths`.
+#[tactic(auto, unfolding(crate::specs::Way::settled))]
 pub fn settled(
     candidates: &[u32],
     width: u32,

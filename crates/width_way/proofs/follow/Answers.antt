@@ -1,5 +1,4 @@
 -- `follow` meets its contract: each turn writes the width after one walk more. Assumes nothing.
-use Prim.Native.Nat.{◌-◌}
 use native.Mathlib.Omega.{arith}
 use Rattle.width_way.proofs.Following.{followed_none, next_inside, followed_next, followed_all}
 use Rattle.width_way.proofs.follow.Goals as goal
@@ -9,21 +8,21 @@ loop-k-init c =
     let a = c.args in
     followed_none a.step a.candidates.now a.to a.at a.walks _ c.requires.at_in_bounds.0
 
-pub offset_bounds-candidates-next : goal.offset_bounds-candidates-next
-offset_bounds-candidates-next c =
+pub offset_bounds-candidates-i : goal.offset_bounds-candidates-i
+offset_bounds-candidates-i c =
     let a = c.args in
-    let h = next_inside a.step a.candidates.now a.to a.at a.walks _ c.requires.at_in_bounds.1 c.walk_index-next.ensures c.loop-k.invariant in
+    let h = next_inside a.step a.candidates.now a.to a.at a.walks _ c.requires.at_in_bounds.1 c.walk_index-i.ensures c.loop-k.invariant in
     omega (arith, h)
 
-pub bounds-candidates-next : goal.bounds-candidates-next
-bounds-candidates-next c =
+pub bounds-candidates-i : goal.bounds-candidates-i
+bounds-candidates-i c =
     let a = c.args in
-    next_inside a.step a.candidates.now a.to a.at a.walks _ c.requires.at_in_bounds.1 c.walk_index-next.ensures c.loop-k.invariant
+    next_inside a.step a.candidates.now a.to a.at a.walks _ c.requires.at_in_bounds.1 c.walk_index-i.ensures c.loop-k.invariant
 
 pub loop-k-preserved : goal.loop-k-preserved
 loop-k-preserved c =
     let a = c.args in
-    followed_next a.step a.candidates.now a.to a.at a.walks _ c.requires.at_in_bounds.1 c.requires.walks_in_bounds c.loop-k-test.true c.walk_index-next.ensures c.loop-k.invariant
+    followed_next a.step a.candidates.now a.to a.at a.walks _ c.requires.at_in_bounds.1 c.requires.walks_in_bounds c.loop-k-test.true c.walk_index-i.ensures c.loop-k.invariant
 
 pub returns : goal.returns
 returns c =
