@@ -11,11 +11,11 @@ use borrow.Author.Tests.{lt-ltb, le-ltb, ltb-false, eq-eqb, ne_eqb}
 use lib.Dec.{T, ltb}
 use lib.ListN.{length, get_or, take, drop, length-append, drop_of_length-le}
 use lib.Seq.{take_all}
-use lib.Ieee.{binary64, round}
+use lib.Ieee.{Float, binary64, round}
 use Rattle.laws.proofs.Both.{and_false, or_right}
 use Rattle.refusals.specs.declared.Refusal.{Refusal}
 use Rattle.refusals.specs.declared.Refusal.TheVariants.{MalformedDecimal, LongDecimal}
-use Rattle.refusals.specs.Refusals.{number_in}
+use Rattle.refusals.specs.Refusals.{Judgement, number_in}
 use Rattle.digits.specs.declared.Digits.{Digits}
 use Rattle.digits.specs.Digits.{is_digit, all_digits, number, count_while, leading_digits, leading_zeros, significant, point, is_zero, is_no_point}
 use Rattle.decimals.specs.Decimals.{Decimal, without_value, Spelled, of_parts, unsigned_of, is_too_long}
@@ -118,14 +118,6 @@ module _ (negative : Bool) (w f : List ℕ) where
     unfolding of_parts
     too_long_is h = rw (well_formed, h)
 
-    -- d is the number of the digits, brought down to the limit
-    number_is : (d : ℕ) → d ≡ min (number 0 (w ++ f)) (10 ^ 15) → is_too_long w f ≡ false → d ≡ number 0 (w ++ f)
-    number_is d read h = read ∙ min-eq_left (le_of_lt (few_below (w ++ f) (subst T (sym all) tt) (few_significant w f h)))
-
-    pub value_is : (d : ℕ) → d ≡ min (number 0 (w ++ f)) (10 ^ 15) → is_too_long w f ≡ false → Ok (round binary64 negative d (10 ^ length f)) ≡ of_parts negative w f
-    unfolding of_parts
-    value_is d read h = rw (well_formed, h, number_is d read h)
-
     pub nothing_wrong : is_too_long w f ≡ false → Ok tt ≡ without_value (of_parts negative w f)
     unfolding of_parts
     nothing_wrong h = rw (well_formed, h)
@@ -146,6 +138,39 @@ parts_signless a b w f = go (ltb 0 (length (w ++ f)) && all_digits (w ++ f)) (is
 pub signless : (a b : Bool) (t : List ℕ) → without_value (unsigned_of a t) ≡ without_value (unsigned_of b t)
 unfolding unsigned_of
 signless a b t = parts_signless a b (take (point t) t) (drop (suc (point t)) t)
+
+module _ (negative : Bool) (w f : List ℕ) where
+  -- the judge's refusal is the reader's
+  pub refused : (refusal : Refusal) → Err refusal ≡ without_value (of_parts false w f) → Err refusal ≡ of_parts negative w f
+  unfolding of_parts
+  refused refusal e = go (ltb 0 (length (w ++ f)) && all_digits (w ++ f)) (is_too_long w f) (round binary64 false (number 0 (w ++ f)) (10 ^ length f)) (round binary64 negative (number 0 (w ++ f)) (10 ^ length f)) e
+    where
+      go : (x y : Bool) (v u : Float) → ◌≡◌ {A = Judgement} (Err refusal) (without_value {A = Float} (cond x (cond y (Err LongDecimal) (Ok v)) (Err MalformedDecimal))) → ◌≡◌ {A = Decimal} (Err refusal) (cond x (cond y (Err LongDecimal) (Ok u)) (Err MalformedDecimal))
+      go true true v u p = cc
+      go true false v u p = cc
+      go false y v u p = cc
+
+  -- what the judge passes is well formed and not too long
+  pub passed : Ok tt ≡ without_value (of_parts false w f) → ((ltb 0 (length (w ++ f)) && all_digits (w ++ f)) ≡ true) × (is_too_long w f ≡ false)
+  unfolding of_parts
+  passed e = go (ltb 0 (length (w ++ f)) && all_digits (w ++ f)) (is_too_long w f) (round binary64 false (number 0 (w ++ f)) (10 ^ length f)) e
+    where
+      go : (x y : Bool) (v : Float) → ◌≡◌ {A = Judgement} (Ok tt) (without_value {A = Float} (cond x (cond y (Err LongDecimal) (Ok v)) (Err MalformedDecimal))) → (x ≡ true) × (y ≡ false)
+      go true true v p = cc
+      go true false v p = (refl, refl)
+      go false y v p = cc
+
+  module _ (ok : Ok tt ≡ without_value (of_parts false w f)) where
+    pub judged_few : length f ≤ 22
+    judged_few = few_decimals w f (passed ok).1
+
+    -- d is the number of the digits, brought down to the limit
+    number_is : (d : ℕ) → Spelled w f d → d ≡ number 0 (w ++ f)
+    number_is d s = s.digits ∙ min-eq_left (le_of_lt (few_below (w ++ f) (subst T (sym (all_of_both w f s.before s.behind)) tt) (few_significant w f (passed ok).1)))
+
+    pub judged_value : (d : ℕ) → Spelled w f d → Ok (round binary64 negative d (10 ^ length f)) ≡ of_parts negative w f
+    unfolding of_parts
+    judged_value d s = rw ((passed ok).0, (passed ok).1, number_is d s)
 
 -- the number of its refusal is that of what was read
 pub number_without : (read : Decimal) → number_in (without_value read) ≡ number_in read

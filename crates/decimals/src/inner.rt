@@ -38,16 +38,12 @@ pub fn unsigned_decimal(negative: bool, text: &[u8]) -> Result<f64, Refusal>
 }
 
 // The decimal of the digits before and after the point, of which `digits` is the number.
+#[tactic(auto, using(crate::proofs::Outcomes::refused, crate::proofs::Outcomes::judged_few, crate::proofs::Outcomes::judged_value))]
 pub fn of_digits(negative: bool, whole: &[u8], fraction: &[u8], digits: u64) -> Result<f64, Refusal>
     requires { Spelled whole.now fraction.now digits }
     ensures { result ≡ of_parts negative whole.now fraction.now }
 {
-    if whole.len() + fraction.len() == 0 {
-        return Err(Refusal::MalformedDecimal);
-    }
-    if too_long(whole, fraction) {
-        return Err(Refusal::LongDecimal);
-    }
+    judge_digits(whole, fraction)?;
     Ok(quotient(negative, digits, fraction.len()))
 }
 

@@ -17,15 +17,6 @@ use Rattle.digits.specs.Digits.{is_digit, all_digits, number, count_while, leadi
 
 -- ---- whether all are digits
 
-pub low_byte : (b : ℕ) → b < 48 → is_digit b ≡ false
-low_byte b h = rw (lt-leb 48 b h)
-
-pub high_byte : (b : ℕ) → 57 < b → is_digit b ≡ false
-high_byte b h = rw (lt-leb b 57 h) (and_false (leb 48 b))
-
-pub digit_byte : (b : ℕ) → 48 ≤ b → b ≤ 57 → is_digit b ≡ true
-digit_byte b h k = rw (le-leb 48 b h, le-leb b 57 k)
-
 digit_high : (b : ℕ) → T (is_digit b) → b ≤ 57
 digit_high b d = leb→le b 57 (and_r (leb 48 b) (leb b 57) d)
 
@@ -178,11 +169,25 @@ module _ (l : ℕ) (t : List ℕ) (i n : ℕ) where
   leading_ends h k = rw (drop_of_length-le t k) (same (i + 0) (min n l) i n (no_further i) (min-eq_left h))
 
 -- past the limit the number stays there
-pub leading_limit : (n l : ℕ) (s : List ℕ) → l ≤ n → leading_digits n l s ≡ leading_digits l l s
+leading_limit : (n l : ℕ) (s : List ℕ) → leading_digits n l s ≡ leading_digits (min n l) l s
 unfolding leading_digits
-leading_limit n l s h =
+leading_limit n l s =
     let k = count_while is_digit s in
-    same k (min (number n (take k s)) l) k (min (number l (take k s)) l) refl (capped n l (take k s) h ∙ sym (capped l l (take k s) (le_refl l)))
+    same k (min (number n (take k s)) l) k (min (number (min n l) (take k s)) l) refl (sym (capped_before n l (take k s)))
+
+-- the answer of the whole, where i digits were read and n is their number: at a digit, at another byte, and at the end
+module _ (whole : Digits) (l : ℕ) (t : List ℕ) (i n : ℕ) (so_far : whole ≡ after i (leading_digits n l (drop i t))) where
+  pub read_digit : i < length t → is_digit (get_or t i 0) ≡ true → whole ≡ after (i + 1) (leading_digits (min (n * 10 + (get_or t i 0 - 48)) l) l (drop (i + 1) t))
+  read_digit h e =
+      so_far
+      ∙ leading_next l t i n h e
+      ∙ ap (after (i + 1)) (leading_limit (n * 10 + (get_or t i 0 - 48)) l (drop (i + 1) t))
+
+  pub read_other : n ≤ l → i < length t → is_digit (get_or t i 0) ≡ false → record { count = i; number = n } ≡ whole
+  read_other h k e = sym (so_far ∙ leading_stops l t i n h k e)
+
+  pub read_all : n ≤ l → length t ≤ i → record { count = i; number = n } ≡ whole
+  read_all h k = sym (so_far ∙ leading_ends l t i n h k)
 
 -- what the record says, field by field
 pub count_is : (n l : ℕ) (s : List ℕ) (d : Digits) → d ≡ leading_digits n l s → d.count ≡ count_while is_digit s

@@ -1,24 +1,21 @@
 // A decimal up to the comma: its digits are walked once, and where they end the field mostly ends too.
 ghost use Rattle.std.specs.Prelude.{◌≡◌, false, eqb, take, drop};
-ghost use Rattle.decimals.specs.Decimals.{decimal_refusal, decimal_of, unsigned_of};
-ghost use Rattle.first_field.specs.Front.{field_length};
+ghost use Rattle.decimals.specs.Decimals.{decimal_of, unsigned_of};
+ghost use Rattle.first_field.specs.Front.{field_length, length_judged};
 
-use crate::{Judged, Read};
+use crate::Read;
 use decimals::inner as behind_sign;
 use digits::inner as front;
+use refusals::Refusal;
 
-// What is wrong with the decimal in the first field, 0 for nothing.
-pub fn refusal(line: &[u8]) -> Judged
-    ensures number { result.number ≡ decimal_refusal (decimal_of (take (field_length line.now) line.now)) }
-    ensures length { result.length ≡ field_length line.now }
+// How long the first field is, refused for what is wrong with the decimal in it.
+#[tactic(auto, using(crate::proofs::FirstField::sign_refused, crate::proofs::FirstField::sign_passed))]
+pub fn judge(line: &[u8]) -> Result<usize, Refusal>
+    ensures { result ≡ length_judged (decimal_of (take (field_length line.now) line.now)) (field_length line.now) }
 {
     let text = front::after_sign(line);
-    let sign = line.len() - text.len();
-    let judged = unsigned_refusal(text);
-    Judged {
-        number: judged.number,
-        length: sign + judged.length,
-    }
+    let length = judge_unsigned(text)?;
+    Ok(line.len() - text.len() + length)
 }
 
 // The decimal in the first field.
@@ -35,29 +32,22 @@ pub fn decimal(line: &[u8]) -> Read
 }
 
 // The same behind a sign. What is not digits, a point and digits is judged when the comma is found.
-fn unsigned_refusal(text: &[u8]) -> Judged
-    ensures number { result.number ≡ decimal_refusal (unsigned_of false (take (field_length text.now) text.now)) }
-    ensures length { result.length ≡ field_length text.now }
+fn judge_unsigned(text: &[u8]) -> Result<usize, Refusal>
+    ensures { result ≡ length_judged (unsigned_of false (take (field_length text.now) text.now)) (field_length text.now) }
 {
     let point = front::digit_count(text);
-    if point < text.len() {
-        if text[point] == b'.' {
-            let from = point + 1;
-            let fraction = &text[from..];
-            let decimals = front::digit_count(fraction);
-            if is_end(fraction, decimals) {
-                return Judged {
-                    number: behind_sign::digits_refusal(&text[..point], &fraction[..decimals]),
-                    length: from + decimals,
-                };
-            }
+    if point < text.len() && text[point] == b'.' {
+        let from = point + 1;
+        let fraction = &text[from..];
+        let decimals = front::digit_count(fraction);
+        if is_end(fraction, decimals) {
+            behind_sign::judge_digits(&text[..point], &fraction[..decimals])?;
+            return Ok(from + decimals);
         }
     }
     let length = field_length(text);
-    Judged {
-        number: behind_sign::unsigned_refusal(&text[..length]),
-        length,
-    }
+    behind_sign::judge_unsigned(&text[..length])?;
+    Ok(length)
 }
 
 // The same behind a sign. What is not digits, a point and digits is read when the comma is found.
@@ -67,23 +57,21 @@ fn unsigned_decimal(negative: bool, text: &[u8]) -> Read
 {
     let before = front::leading_digits(text, 0, behind_sign::DIGITS_LIMIT);
     let point = before.count;
-    if point < text.len() {
-        if text[point] == b'.' {
-            let from = point + 1;
-            let fraction = &text[from..];
-            let both = front::leading_digits(fraction, before.number, behind_sign::DIGITS_LIMIT);
-            let decimals = both.count;
-            if is_end(fraction, decimals) {
-                return Read {
-                    decimal: behind_sign::of_digits(
-                        negative,
-                        &text[..point],
-                        &fraction[..decimals],
-                        both.number,
-                    ),
-                    length: from + decimals,
-                };
-            }
+    if point < text.len() && text[point] == b'.' {
+        let from = point + 1;
+        let fraction = &text[from..];
+        let both = front::leading_digits(fraction, before.number, behind_sign::DIGITS_LIMIT);
+        let decimals = both.count;
+        if is_end(fraction, decimals) {
+            return Read {
+                decimal: behind_sign::of_digits(
+                    negative,
+                    &text[..point],
+                    &fraction[..decimals],
+                    both.number,
+                ),
+                length: from + decimals,
+            };
         }
     }
     let length = field_length(text);
@@ -97,23 +85,12 @@ fn unsigned_decimal(negative: bool, text: &[u8]) -> Read
 fn is_end(text: &[u8], at: usize) -> bool
     ensures { result ≡ eqb (field_length (drop at text.now)) 0 }
 {
-    if at < text.len() {
-        text[at] == b','
-    } else {
-        true
-    }
+    text.len() <= at || text[at] == b','
 }
 
 // How long the first field is.
 fn field_length(line: &[u8]) -> usize
     ensures { result ≡ field_length line.now }
 {
-    let mut at = 0usize;
-    while at < line.len() {
-        if line[at] == b',' {
-            return at;
-        }
-        at += 1;
-    }
-    at
+    line.iter().position(|b| *b == b',').unwrap_or(line.len())
 }
