@@ -1,9 +1,11 @@
 -- What a draft is asked with: counts and parameters, widths, and the loaded experts. Assumes nothing.
-use Rattle.std.specs.Prelude.{ℕ, ◌+◌, max, Bool, true, ◌&&◌, cond, List, [], ◌∷◌, leb, ltb, length, take, Float}
+use Rattle.std.specs.Prelude.{ℕ, ◌+◌, max, Bool, true, ◌&&◌, cond, List, [], ◌∷◌, leb, ltb, length, take, Float, Err}
 use Rattle.std.specs.Float.{binary64}
 use Rattle.std.specs.Float.Ieee.{of_bits}
 use Rattle.float.specs.Floats.{f0}
 use Rattle.float.specs.Range.{in_range}
+use Rattle.refusals.specs.declared.Refusal.TheVariants.{Input, ShortBuffer}
+use Rattle.refusals.specs.Refusals.{Judgement, passed_if}
 use Rattle.acceptance.specs.Acceptance.{most_gamma}
 
 -- ---- widths that differ
@@ -53,6 +55,7 @@ abbrev pub all_loaded : List Float → Bool
 all_loaded [] = true
 all_loaded (x ∷ xs) = in_range f0 million x && all_loaded xs
 
--- the loaded experts are read for an autoregressive head alone, as far as the entry of the batch: 16 where that is missing, 15 where one is out of range
-abbrev pub entries_refusal : ℕ → List Float → ℕ
-entries_refusal batch loaded = cond (ltb batch (length loaded)) (cond (all_loaded (take (batch + 1) loaded)) 0 15) 16
+-- the loaded experts are read for an autoregressive head alone, as far as the entry of the batch: they are too short where that is missing, and refused as
+-- an input where one is out of range
+abbrev pub entries_judged : ℕ → List Float → Judgement
+entries_judged batch loaded = cond (ltb batch (length loaded)) (passed_if (all_loaded (take (batch + 1) loaded)) Input) (Err ShortBuffer)

@@ -1,8 +1,9 @@
 // Judging and counting what a draft is asked with.
 ghost use Rattle.std.specs.Prelude.{◌≡◌, ◌&&◌, ◌≤◌, length};
-ghost use Rattle.draft_inputs.specs.Inputs.{is_params, is_head, is_verify_cost, all_widths, all_loaded, entries_refusal, largest, still_drafting};
+ghost use Rattle.draft_inputs.specs.Inputs.{is_params, is_head, is_verify_cost, all_widths, all_loaded, entries_judged, largest, still_drafting};
 
 use crate::{MOST_COUNT, MOST_GAMMA};
+use refusals::Refusal;
 
 // Whether the counts and the parameters of an autoregressive head are in range.
 pub fn is_head(
@@ -57,17 +58,17 @@ pub fn are_loaded(loaded: &[f64]) -> bool
     true
 }
 
-// 16 where the entry of the batch is missing, 15 where one up to it is out of range; else 0.
-pub fn entries_refusal(batch: usize, loaded: &[f64]) -> u64
-    ensures { result ≡ entries_refusal batch loaded.now }
+// Refused as too short where the entry of the batch is missing, as an input where one up to it is out of range.
+pub fn judge_entries(batch: usize, loaded: &[f64]) -> Result<(), Refusal>
+    ensures { result ≡ entries_judged batch loaded.now }
 {
     if loaded.len() <= batch {
-        return 16;
+        return Err(Refusal::ShortBuffer);
     }
     if are_loaded(&loaded[..batch + 1]) {
-        0
+        Ok(())
     } else {
-        15
+        Err(Refusal::Input)
     }
 }
 

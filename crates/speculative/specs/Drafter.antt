@@ -1,19 +1,19 @@
 -- What producing the drafts costs, in seconds a step, in the Rust's order of operations; and what is refused.
 -- Assumes nothing.
-use Rattle.std.specs.Prelude.{ℕ, zero, suc, Bool, true, false, ◌&&◌, cond, List, eqb, leb, ltb, length, get_or, Float}
+use Rattle.std.specs.Prelude.{ℕ, zero, suc, Bool, true, false, ◌&&◌, cond, List, eqb, leb, ltb, length, get_or, Float, Result, Ok, Err}
 use Rattle.std.specs.Float.{nan}
 use Rattle.std.specs.Float.Ieee.{neg}
 use Rattle.float.specs.Floats.{plus, times, over, f0, f1, f2, whole, max_of}
 use Rattle.float.specs.Range.{in_range, in_signed_range}
 use Rattle.acceptance.specs.Acceptance.{most_gamma}
-pub use Rattle.draft_inputs.specs.Inputs.{million, billion, quintillion, most_count, is_params, is_count, is_head, is_verify_cost, all_widths, all_loaded, entries_refusal}
+pub use Rattle.draft_inputs.specs.Inputs.{million, billion, quintillion, most_count, is_params, is_count, is_head, is_verify_cost, all_widths, all_loaded, entries_judged}
 unfoldable pub use Rattle.draft_inputs.specs.Inputs.{largest, still_drafting}
-use Rattle.refusals.specs.Refusals.{first_of}
+use Rattle.refusals.specs.declared.Refusal.{Refusal}
+use Rattle.refusals.specs.declared.Refusal.TheVariants.{Size, Setting, Input}
+use Rattle.refusals.specs.Refusals.{Judgement, passed_if, and_then, number_in}
 use Rattle.speculative.specs.declared.drafter.Rates.{Rates}
 use Rattle.speculative.specs.declared.drafter.DrafterCost.{DrafterCost}
 use Rattle.speculative.specs.declared.drafter.DrafterCost.TheVariants.{Fraction, Autoregressive, BlockParallel}
-use Rattle.speculative.specs.declared.drafter.DraftTime.{DraftTime}
-use Rattle.speculative.specs.declared.drafter.DraftTime.TheVariants.{Seconds, Refused}
 
 -- ---- one draft of a fixed depth
 
@@ -99,57 +99,60 @@ is_drafter (Fraction frac) = in_range f0 million frac
 is_drafter (Autoregressive dense expert experts k shared) = is_head dense expert experts k shared
 is_drafter (BlockParallel params block) = is_count block && is_params params
 
-unfoldable pub drafter_refusal : DrafterCost → ℕ
-drafter_refusal kind = cond (is_drafter kind) 0 12
+unfoldable pub drafter_judged : DrafterCost → Judgement
+drafter_judged kind = passed_if (is_drafter kind) Setting
 
 -- the rates that a drafter streams at
 abbrev pub is_streamed : Rates → Bool
 is_streamed rates = in_range f1 quintillion rates.peak && in_range f1 quintillion rates.bw
 
-unfoldable pub rates_refusal : Rates → ℕ
-rates_refusal rates = cond (is_streamed rates && in_signed_range (neg billion) billion rates.kv_delta) 0 15
+unfoldable pub rates_judged : Rates → Judgement
+rates_judged rates = passed_if (is_streamed rates && in_signed_range (neg billion) billion rates.kv_delta) Input
 
-unfoldable pub loaded_refusal : DrafterCost → ℕ → List Float → ℕ
-loaded_refusal (Fraction frac) batch loaded = 0
-loaded_refusal (Autoregressive dense expert experts k shared) batch loaded = entries_refusal batch loaded
-loaded_refusal (BlockParallel params block) batch loaded = 0
+unfoldable pub loaded_judged : DrafterCost → ℕ → List Float → Judgement
+loaded_judged (Fraction frac) batch loaded = Ok tt
+loaded_judged (Autoregressive dense expert experts k shared) batch loaded = entries_judged batch loaded
+loaded_judged (BlockParallel params block) batch loaded = Ok tt
 
--- 16, then 15; `valued` says whether the call's other values are in range
-unfoldable pub inputs_refusal : DrafterCost → ℕ → Rates → Bool → List Float → ℕ
-inputs_refusal kind batch rates valued loaded = first_of (loaded_refusal kind batch loaded) (cond (is_streamed rates && valued) 0 15)
+-- the loaded experts, then the rates; `valued` says whether the call's other values are in range
+unfoldable pub inputs_judged : DrafterCost → ℕ → Rates → Bool → List Float → Judgement
+inputs_judged kind batch rates valued loaded = and_then (loaded_judged kind batch loaded) (passed_if (is_streamed rates && valued) Input)
 
--- 12, then 11, then 16, then 15; `sized` says whether the call's other sizes are in range
-unfoldable pub cost_refusal : DrafterCost → Bool → ℕ → Rates → Bool → List Float → ℕ
-cost_refusal kind sized batch rates valued loaded =
-    first_of (drafter_refusal kind) (first_of (cond (sized && leb batch most_batch) 0 11) (inputs_refusal kind batch rates valued loaded))
+-- the drafter, the sizes, then the inputs; `sized` says whether the call's other sizes are in range
+unfoldable pub cost_judged : DrafterCost → Bool → ℕ → Rates → Bool → List Float → Judgement
+cost_judged kind sized batch rates valued loaded =
+    and_then (drafter_judged kind) (and_then (passed_if (sized && leb batch most_batch) Size) (inputs_judged kind batch rates valued loaded))
+
+-- ---- their numbers, 0 where they pass
+abbrev pub drafter_refusal : DrafterCost → ℕ
+drafter_refusal kind = number_in (drafter_judged kind)
+
+abbrev pub rates_refusal : Rates → ℕ
+rates_refusal rates = number_in (rates_judged rates)
+
+abbrev pub loaded_refusal : DrafterCost → ℕ → List Float → ℕ
+loaded_refusal kind batch loaded = number_in (loaded_judged kind batch loaded)
 
 -- ---- the answers
-abbrev pub time_unless : ℕ → Float → DraftTime
-time_unless zero x = Seconds x
-time_unless (suc refusal) x = Refused (suc refusal)
 
 -- a draft of gamma over the batch
-unfoldable pub draft_seconds : DrafterCost → ℕ → ℕ → Rates → Float → List Float → DraftTime
+unfoldable pub draft_seconds : DrafterCost → ℕ → ℕ → Rates → Float → List Float → Result Float Refusal
 draft_seconds kind gamma batch rates verify loaded =
-    time_unless (cost_refusal kind (leb gamma most_gamma) batch rates (is_verify_cost verify) loaded)
-    (drafter_seconds kind gamma batch rates verify (loaded_at kind loaded batch))
+    and_then (cost_judged kind (leb gamma most_gamma) batch rates (is_verify_cost verify) loaded)
+    (Ok (drafter_seconds kind gamma batch rates verify (loaded_at kind loaded batch)))
 
 -- one pass over the batch
-unfoldable pub draft_pass : DrafterCost → ℕ → Rates → List Float → DraftTime
+unfoldable pub draft_pass : DrafterCost → ℕ → Rates → List Float → Result Float Refusal
 draft_pass kind batch rates loaded =
-    time_unless (cost_refusal kind true batch rates true loaded) (pass_seconds kind batch rates (loaded_at kind loaded batch))
+    and_then (cost_judged kind true batch rates true loaded) (Ok (pass_seconds kind batch rates (loaded_at kind loaded batch)))
 
 -- a draft of each width
-unfoldable pub draft_ragged : DrafterCost → List ℕ → Rates → Float → List Float → DraftTime
+unfoldable pub draft_ragged : DrafterCost → List ℕ → Rates → Float → List Float → Result Float Refusal
 draft_ragged kind widths rates verify loaded =
-    time_unless (cost_refusal kind true (length widths) rates (all_widths widths && is_verify_cost verify) loaded)
-    (ragged_seconds kind widths rates verify loaded)
+    and_then (cost_judged kind true (length widths) rates (all_widths widths && is_verify_cost verify) loaded)
+    (Ok (ragged_seconds kind widths rates verify loaded))
 
--- the refusal number of an answer, 0 where there is none, and its seconds
-abbrev pub time_refusal : DraftTime → ℕ
-time_refusal (Seconds x) = 0
-time_refusal (Refused refusal) = refusal
-
-abbrev pub seconds_of : DraftTime → Float
-seconds_of (Seconds x) = x
-seconds_of (Refused refusal) = f0
+-- the seconds of an answer
+abbrev pub seconds_of : Result Float Refusal → Float
+seconds_of (Ok x) = x
+seconds_of (Err refusal) = f0

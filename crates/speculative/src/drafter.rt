@@ -1,9 +1,10 @@
 // What producing the drafts costs, in seconds a step. Every function takes every drafter, rate, list and number.
 ghost use Rattle.std.specs.Prelude.{◌≡◌};
-ghost use Rattle.speculative.specs.Drafter.{absent, is_block, is_drafter, is_streamed, drafter_refusal, rates_refusal, loaded_refusal, inputs_refusal, cost_refusal, draft_seconds, draft_pass, draft_ragged};
+ghost use Rattle.speculative.specs.Drafter.{absent, is_block, is_drafter, is_streamed, drafter_judged, rates_judged, loaded_judged, inputs_judged, cost_judged, draft_seconds, draft_pass, draft_ragged};
 
 use crate::inner;
 use draft_inputs::{MOST_COUNT, MOST_GAMMA};
+use refusals::Refusal;
 
 // What the drafter streams at, and the cost table's correction for the length of the contexts.
 #[derive(Clone, Copy)]
@@ -32,13 +33,6 @@ pub enum DrafterCost {
     },
 }
 
-// The seconds of a draft, or the number of the refusal.
-#[derive(Clone, Copy)]
-pub enum DraftTime {
-    Seconds(f64),
-    Refused(u64),
-}
-
 // The most sequences.
 const MOST_BATCH: usize = 1024;
 
@@ -54,36 +48,38 @@ pub fn is_block(drafter: DrafterCost) -> bool
     ensures { result ≡ is_block drafter }
 {
     match drafter {
-        DrafterCost::Fraction { .. } => false,
-        DrafterCost::Autoregressive { .. } => false,
+        DrafterCost::Fraction { .. } | DrafterCost::Autoregressive { .. } => false,
         DrafterCost::BlockParallel { .. } => true,
     }
 }
 
-// 12 where a rate or a count of the drafter is out of range; else 0.
-pub fn drafter_refusal(drafter: DrafterCost) -> u64
-    ensures { result ≡ drafter_refusal drafter }
+// Refused as a setting where a rate or a count of the drafter is out of range.
+#[tactic(auto, unfolding(crate::specs::Drafter::drafter_judged))]
+pub fn judge_drafter(drafter: DrafterCost) -> Result<(), Refusal>
+    ensures { result ≡ drafter_judged drafter }
 {
-    if is_drafter(drafter) { 0 } else { 12 }
+    if is_drafter(drafter) {
+        Ok(())
+    } else {
+        Err(Refusal::Setting)
+    }
 }
 
-// 15 where a rate is out of range; else 0.
-pub fn rates_refusal(rates: Rates) -> u64
-    ensures { result ≡ rates_refusal rates }
+// Refused as an input where a rate is out of range.
+#[tactic(auto, unfolding(crate::specs::Drafter::rates_judged))]
+pub fn judge_rates(rates: Rates) -> Result<(), Refusal>
+    ensures { result ≡ rates_judged rates }
 {
-    if is_streamed(rates) {
-        if float::in_signed_range(rates.kv_delta, -1e9, 1e9) {
-            0
-        } else {
-            15
-        }
+    if is_streamed(rates) && float::in_signed_range(rates.kv_delta, -1e9, 1e9) {
+        Ok(())
     } else {
-        15
+        Err(Refusal::Input)
     }
 }
 
 // The seconds of a draft of `gamma` over `batch` sequences; 12, 11, 16, then 15. `loaded` has the routed experts that each
 // number of sequences loads, and is looked at for an autoregressive head alone.
+#[tactic(auto, unfolding(crate::specs::Drafter::draft_seconds))]
 pub fn seconds(
     drafter: DrafterCost,
     gamma: u32,
@@ -91,53 +87,40 @@ pub fn seconds(
     rates: Rates,
     verify_c: f64,
     loaded: &[f64],
-) -> DraftTime
+) -> Result<f64, Refusal>
     ensures { result ≡ draft_seconds drafter gamma batch rates verify_c loaded.now }
 {
     let valued = float::in_range(verify_c, 0.0, 1e9);
-    let refusal = refusal_of(
-        drafter,
-        gamma <= MOST_GAMMA,
-        batch as usize,
-        rates,
-        valued,
-        loaded,
-    );
-    if 0 < refusal {
-        return DraftTime::Refused(refusal);
-    }
+    let sized = gamma <= MOST_GAMMA;
+    judge(drafter, sized, batch as usize, rates, valued, loaded)?;
     let experts = inner::loaded_at(drafter, loaded, batch as usize);
-    DraftTime::Seconds(inner::seconds(drafter, gamma, batch, rates, verify_c, experts))
+    Ok(inner::seconds(drafter, gamma, batch, rates, verify_c, experts))
 }
 
 // One pass over `batch` sequences; 12, 11, 16, then 15.
-pub fn pass_seconds(drafter: DrafterCost, batch: u32, rates: Rates, loaded: &[f64]) -> DraftTime
+#[tactic(auto, unfolding(crate::specs::Drafter::draft_pass))]
+pub fn pass_seconds(drafter: DrafterCost, batch: u32, rates: Rates, loaded: &[f64]) -> Result<f64, Refusal>
     ensures { result ≡ draft_pass drafter batch rates loaded.now }
 {
-    let refusal = refusal_of(drafter, true, batch as usize, rates, true, loaded);
-    if 0 < refusal {
-        return DraftTime::Refused(refusal);
-    }
+    judge(drafter, true, batch as usize, rates, true, loaded)?;
     let experts = inner::loaded_at(drafter, loaded, batch as usize);
-    DraftTime::Seconds(inner::pass_seconds(drafter, batch, rates, experts))
+    Ok(inner::pass_seconds(drafter, batch, rates, experts))
 }
 
 // The seconds of a draft in which each sequence has its own width; 12, 11, 16, then 15.
+#[tactic(auto, unfolding(crate::specs::Drafter::draft_ragged))]
 pub fn ragged_seconds(
     drafter: DrafterCost,
     widths: &[u32],
     rates: Rates,
     verify_c: f64,
     loaded: &[f64],
-) -> DraftTime
+) -> Result<f64, Refusal>
     ensures { result ≡ draft_ragged drafter widths.now rates verify_c loaded.now }
 {
     let valued = draft_inputs::inner::is_ragged(widths, verify_c);
-    let refusal = refusal_of(drafter, true, widths.len(), rates, valued, loaded);
-    if 0 < refusal {
-        return DraftTime::Refused(refusal);
-    }
-    DraftTime::Seconds(inner::ragged_seconds(drafter, widths, rates, verify_c, loaded))
+    judge(drafter, true, widths.len(), rates, valued, loaded)?;
+    Ok(inner::ragged_seconds(drafter, widths, rates, verify_c, loaded))
 }
 
 // Whether each rate and count of the drafter is in range.
@@ -160,10 +143,7 @@ fn is_drafter(drafter: DrafterCost) -> bool
             shared_experts,
         ),
         DrafterCost::BlockParallel { params, block } => {
-            if MOST_COUNT < block {
-                return false;
-            }
-            draft_inputs::inner::is_params(params)
+            block <= MOST_COUNT && draft_inputs::inner::is_params(params)
         }
     }
 }
@@ -172,66 +152,54 @@ fn is_drafter(drafter: DrafterCost) -> bool
 fn is_streamed(rates: Rates) -> bool
     ensures { result ≡ is_streamed rates }
 {
-    if float::in_range(rates.peak, 1.0, 1e18) {
-        float::in_range(rates.bw, 1.0, 1e18)
-    } else {
-        false
-    }
+    float::in_range(rates.peak, 1.0, 1e18) && float::in_range(rates.bw, 1.0, 1e18)
 }
 
 // What is refused of the loaded experts: for an autoregressive head alone.
-fn loaded_refusal(drafter: DrafterCost, batch: usize, loaded: &[f64]) -> u64
-    ensures { result ≡ loaded_refusal drafter batch loaded.now }
+#[tactic(auto, unfolding(crate::specs::Drafter::loaded_judged))]
+fn judge_loaded(drafter: DrafterCost, batch: usize, loaded: &[f64]) -> Result<(), Refusal>
+    ensures { result ≡ loaded_judged drafter batch loaded.now }
 {
     match drafter {
-        DrafterCost::Fraction { .. } => 0,
-        DrafterCost::Autoregressive { .. } => draft_inputs::inner::entries_refusal(batch, loaded),
-        DrafterCost::BlockParallel { .. } => 0,
+        DrafterCost::Autoregressive { .. } => draft_inputs::inner::judge_entries(batch, loaded),
+        DrafterCost::Fraction { .. } | DrafterCost::BlockParallel { .. } => Ok(()),
     }
 }
 
-// 16, then 15; else 0.
-fn inputs_refusal(
+// The loaded experts, then the rates and what `valued` says of the call's other values.
+#[tactic(auto, unfolding(crate::specs::Drafter::inputs_judged))]
+fn judge_inputs(
     drafter: DrafterCost,
     batch: usize,
     rates: Rates,
     valued: bool,
     loaded: &[f64],
-) -> u64
-    ensures { result ≡ inputs_refusal drafter batch rates valued loaded.now }
+) -> Result<(), Refusal>
+    ensures { result ≡ inputs_judged drafter batch rates valued loaded.now }
 {
-    let refusal = loaded_refusal(drafter, batch, loaded);
-    if 0 < refusal {
-        return refusal;
-    }
-    if is_streamed(rates) {
-        if valued { 0 } else { 15 }
+    judge_loaded(drafter, batch, loaded)?;
+    if is_streamed(rates) && valued {
+        Ok(())
     } else {
-        15
+        Err(Refusal::Input)
     }
 }
 
-// 12, 11, 16, then 15; else 0. `sized` and `valued` say whether what else the call is lent is in range.
-fn refusal_of(
+// The drafter, the sizes, then the inputs. `sized` and `valued` say whether what else the call is lent is in range.
+#[tactic(auto, unfolding(crate::specs::Drafter::cost_judged))]
+fn judge(
     drafter: DrafterCost,
     sized: bool,
     batch: usize,
     rates: Rates,
     valued: bool,
     loaded: &[f64],
-) -> u64
-    ensures { result ≡ cost_refusal drafter sized batch rates valued loaded.now }
+) -> Result<(), Refusal>
+    ensures { result ≡ cost_judged drafter sized batch rates valued loaded.now }
 {
-    let refusal = drafter_refusal(drafter);
-    if 0 < refusal {
-        return refusal;
+    judge_drafter(drafter)?;
+    if !sized || MOST_BATCH < batch {
+        return Err(Refusal::Size);
     }
-    if MOST_BATCH < batch {
-        return 11;
-    }
-    if sized {
-        inputs_refusal(drafter, batch, rates, valued, loaded)
-    } else {
-        11
-    }
+    judge_inputs(drafter, batch, rates, valued, loaded)
 }
