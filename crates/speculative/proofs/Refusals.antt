@@ -1,15 +1,14 @@
 -- What is refused of a drafter and of rates, and what is known of a draft that is not refused. Assumes nothing.
-use mathlib.Core.Path.{◌≡◌, refl, ap}
+use mathlib.Core.Path.{◌≡◌, refl}
 use mathlib.Core.Bool.{Bool, true, false, ◌&&◌}
 use mathlib.Core.List.{List}
 use Prim.Native.Nat.{ℕ, ◌≤◌, ◌<◌}
 use borrow.Author.Tests.{lt-leb, leb-true}
 use lib.Dec.{leb}
 use lib.Ieee.{Float, neg}
-use Rattle.std.specs.Prelude.{Result, Ok, Err}
+use Rattle.std.specs.Prelude.{Ok, Err}
 use Rattle.float.specs.Range.{in_signed_range}
 use Rattle.draft_inputs.specs.Inputs.{billion, most_count, is_params}
-use Rattle.refusals.specs.declared.Refusal.{Refusal}
 use Rattle.refusals.specs.declared.Refusal.TheVariants.{Size, Input}
 use Rattle.refusals.specs.Refusals.{Judgement, passed_if, and_then}
 use Rattle.refusals.proofs.First.{refused_is_no_pass}

@@ -99,7 +99,12 @@ pub fn seconds(
 
 // One pass over `batch` sequences; 12, 11, 16, then 15.
 #[tactic(auto, unfolding(crate::specs::Drafter::draft_pass))]
-pub fn pass_seconds(drafter: DrafterCost, batch: u32, rates: Rates, loaded: &[f64]) -> Result<f64, Refusal>
+pub fn pass_seconds(
+    drafter: DrafterCost,
+    batch: u32,
+    rates: Rates,
+    loaded: &[f64],
+) -> Result<f64, Refusal>
     ensures { result ≡ draft_pass drafter batch rates loaded.now }
 {
     judge(drafter, true, batch as usize, rates, true, loaded)?;
@@ -108,7 +113,7 @@ pub fn pass_seconds(drafter: DrafterCost, batch: u32, rates: Rates, loaded: &[f6
 }
 
 // The seconds of a draft in which each sequence has its own width; 12, 11, 16, then 15.
-#[tactic(auto, unfolding(crate::specs::Drafter::draft_ragged))]
+#[tactic(auto, using(crate::proofs::Refusals::cost_sized), unfolding(crate::specs::Drafter::draft_ragged))]
 pub fn ragged_seconds(
     drafter: DrafterCost,
     widths: &[u32],

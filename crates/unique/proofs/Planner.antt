@@ -4,7 +4,8 @@ use mathlib.Core.List.{List}
 use Prim.Native.Nat.{ℕ}
 use lib.Ieee.{Float}
 use Rattle.speculative.specs.Drafter.{draft_ragged}
-use Rattle.speculative.specs.declared.drafter.DraftTime.{DraftTime}
+use Rattle.std.specs.Prelude.{Result}
+use Rattle.refusals.specs.declared.Refusal.{Refusal}
 use Rattle.speculative.specs.declared.drafter.Rates.{Rates}
 use Rattle.ledger.specs.declared.answer.Answer.{Answer}
 use Rattle.ledger.specs.declared.answer.Stall.{Stall}
@@ -24,7 +25,7 @@ plan_once settings ask positions roofline depths batches seconds loaded bank_com
 pub accepted_once : (draft : ℕ) (round : Round) → OnlyOne (λ (r : ℕ). r ≡ accepted_of draft round)
 accepted_once draft round x y p q = once p q
 
-pub drafter_seconds_once : (settings : Settings) (widths : List ℕ) (rates : Rates) (verify_c : Float) (loaded : List Float) → OnlyOne (λ (r : DraftTime). r ≡ draft_ragged settings.drafter widths rates verify_c loaded)
+pub drafter_seconds_once : (settings : Settings) (widths : List ℕ) (rates : Rates) (verify_c : Float) (loaded : List Float) → OnlyOne (λ (r : Result Float Refusal). r ≡ draft_ragged settings.drafter widths rates verify_c loaded)
 drafter_seconds_once settings widths rates verify_c loaded x y p q = once p q
 
 pub collect_once : (storage : List ℕ) (a b : ℕ) → OnlyTwo (λ (r : Stall) (storage' : List ℕ). (r, storage') ≡ collected storage a b)

@@ -4,26 +4,28 @@ use mathlib.Core.List.{List}
 use mathlib.Core.Path.{◌≡◌}
 use Prim.Native.Nat.{ℕ}
 use lib.Ieee.{Float}
-use Rattle.speculative.specs.Drafter.{absent, draft_pass, draft_ragged, draft_seconds, drafter_refusal, is_block, rates_refusal}
-use Rattle.speculative.specs.declared.drafter.DraftTime.{DraftTime}
+use Rattle.std.specs.Prelude.{Result}
+use Rattle.refusals.specs.declared.Refusal.{Refusal}
+use Rattle.refusals.specs.Refusals.{Judgement}
+use Rattle.speculative.specs.Drafter.{absent, draft_pass, draft_ragged, draft_seconds, drafter_judged, is_block, rates_judged}
 use Rattle.speculative.specs.declared.drafter.DrafterCost.{DrafterCost}
 use Rattle.speculative.specs.declared.drafter.Rates.{Rates}
 use Rattle.unique.specs.Only.{OnlyOne}
 use Rattle.unique.proofs.Law.{once}
 
-pub drafter_drafter_refusal_once : (drafter : DrafterCost) → OnlyOne (λ (r : ℕ). r ≡ drafter_refusal drafter)
-drafter_drafter_refusal_once drafter x y p q = once p q
+pub drafter_judge_drafter_once : (drafter : DrafterCost) → OnlyOne (λ (r : Judgement). r ≡ drafter_judged drafter)
+drafter_judge_drafter_once drafter x y p q = once p q
 
-pub drafter_rates_refusal_once : (rates : Rates) → OnlyOne (λ (r : ℕ). r ≡ rates_refusal rates)
-drafter_rates_refusal_once rates x y p q = once p q
+pub drafter_judge_rates_once : (rates : Rates) → OnlyOne (λ (r : Judgement). r ≡ rates_judged rates)
+drafter_judge_rates_once rates x y p q = once p q
 
-pub drafter_seconds_once : (drafter : DrafterCost) (gamma batch : ℕ) (rates : Rates) (verify_c : Float) (loaded : List Float) → OnlyOne (λ (r : DraftTime). r ≡ draft_seconds drafter gamma batch rates verify_c loaded)
+pub drafter_seconds_once : (drafter : DrafterCost) (gamma batch : ℕ) (rates : Rates) (verify_c : Float) (loaded : List Float) → OnlyOne (λ (r : Result Float Refusal). r ≡ draft_seconds drafter gamma batch rates verify_c loaded)
 drafter_seconds_once drafter gamma batch rates verify_c loaded x y p q = once p q
 
-pub drafter_pass_seconds_once : (drafter : DrafterCost) (batch : ℕ) (rates : Rates) (loaded : List Float) → OnlyOne (λ (r : DraftTime). r ≡ draft_pass drafter batch rates loaded)
+pub drafter_pass_seconds_once : (drafter : DrafterCost) (batch : ℕ) (rates : Rates) (loaded : List Float) → OnlyOne (λ (r : Result Float Refusal). r ≡ draft_pass drafter batch rates loaded)
 drafter_pass_seconds_once drafter batch rates loaded x y p q = once p q
 
-pub drafter_ragged_seconds_once : (drafter : DrafterCost) (widths : List ℕ) (rates : Rates) (verify_c : Float) (loaded : List Float) → OnlyOne (λ (r : DraftTime). r ≡ draft_ragged drafter widths rates verify_c loaded)
+pub drafter_ragged_seconds_once : (drafter : DrafterCost) (widths : List ℕ) (rates : Rates) (verify_c : Float) (loaded : List Float) → OnlyOne (λ (r : Result Float Refusal). r ≡ draft_ragged drafter widths rates verify_c loaded)
 drafter_ragged_seconds_once drafter widths rates verify_c loaded x y p q = once p q
 
 pub drafter_no_drafter_once : OnlyOne (λ (r : DrafterCost). r ≡ absent)

@@ -1,5 +1,4 @@
 -- `inner::all_passes` meets its contract: the sum is the definition's at each depth. Assumes nothing.
-use Prim.Native.Nat.{◌-◌}
 use native.Mathlib.Omega.{arith}
 use Rattle.speculative.proofs.Pricing.{no_passes, one_pass_more}
 use Rattle.speculative.proofs.inner.all_passes.Goals as goal
