@@ -18,6 +18,8 @@ use Rattle.decimals.proofs.Rounding.{whole_held}
 use Rattle.float.specs.Floats.{plus, times, f0, is_finite, is_clear}
 use Rattle.float.specs.Range.{in_range}
 use Rattle.float.proofs.Classes.{clash}
+use Rattle.refusals.specs.declared.Refusal.TheVariants.{Setting}
+use Rattle.refusals.specs.Refusals.{passed_if, number_in}
 use Rattle.switch_settings.specs.Switch.{most_cost, switch_refusal}
 use Rattle.switch_settings.specs.declared.SwitchConstraints.{SwitchConstraints}
 use Rattle.width_walk.specs.Walk.{walk_candidates}
@@ -163,7 +165,7 @@ change_up_to constraints e = go (is_clear x) (lt x f0) (lt most_cost x) refl ref
     x : Float
     x = constraints.cost_ms
 
-    go : (a b c : Bool) → is_clear x ≡ a → lt most_cost x ≡ c → ◌≡◌ {A = ℕ} (cond (a && (not b && not c)) 0 12) 0 → UpTo 3600 (times milli x)
+    go : (a b c : Bool) → is_clear x ≡ a → lt most_cost x ≡ c → ◌≡◌ {A = ℕ} (number_in (passed_if (a && (not b && not c)) Setting)) 0 → UpTo 3600 (times milli x)
     go true false false p q z = subst (λ (y : Float). UpTo 3600 (times y x)) (sym milli_is) (product_up_to x (cost_up_to x p (ap (λ (y : Float). lt y x) (sym hour_is) ∙ q)))
     go true false true p q z = absurd (let w : ⊥ = omega arith in w)
     go true true c p q z = absurd (let w : ⊥ = omega arith in w)

@@ -1,20 +1,17 @@
 -- One worker's switching record: what each step makes of it, and what is refused. Assumes nothing.
-use Rattle.std.specs.Prelude.{ℕ, zero, suc, ◌+◌, ◌-◌, max, Bool, true, ◌&&◌, cond, List, [], ◌∷◌, ◌++◌, leb, eqb, length, set, replicate, Float}
+use Rattle.std.specs.Prelude.{ℕ, suc, ◌+◌, ◌-◌, max, Bool, true, ◌&&◌, cond, List, [], ◌∷◌, ◌++◌, leb, eqb, length, set, replicate, Float, Ok, Err}
 use Rattle.std.specs.Float.{binary64}
 use Rattle.std.specs.Float.Ieee.{of_bits}
 use Rattle.float.specs.Floats.{plus, times, f0, is_finite, is_clear}
 use Rattle.float.specs.Range.{in_range_or_infinite}
-use Rattle.refusals.specs.Refusals.{first_of}
+use Rattle.refusals.specs.declared.Refusal.TheVariants.{Size, Input}
+use Rattle.refusals.specs.Refusals.{Judgement, passed_if, and_then, number_in}
 use Rattle.draft_inputs.specs.Inputs.{billion}
-use Rattle.switch_settings.specs.Switch.{switch_refusal}
+use Rattle.switch_settings.specs.Switch.{switch_judged}
 use Rattle.switch_settings.specs.declared.SwitchConstraints.{SwitchConstraints}
 use Rattle.width_walk.specs.Walk.{walk_candidates}
 use Rattle.switching.specs.declared.Switching.{Switching}
-use Rattle.switching.specs.declared.Answer.{Answer}
-use Rattle.switching.specs.declared.Answer.TheVariants.{Width, Refused}
 use Rattle.switching.specs.declared.Decided.{Decided}
-use Rattle.switching.specs.declared.Stall.{Stall}
-use Rattle.switching.specs.declared.Stall.TheVariants.{Seconds, Refused as NotCollected}
 use Rattle.switching.specs.declared.Collected.{Collected}
 use Rattle.switching.specs.declared.inner.Candidates.{Candidates}
 
@@ -81,17 +78,21 @@ most_depths = 65
 abbrev pub is_record : Switching → Bool
 is_record s = leb s.width most_width && (leb s.rounds most_rounds && (is_finite s.stall && is_clear s.stall))
 
-unfoldable pub record_refusal : Switching → ℕ
-record_refusal s = cond (is_record s) 0 15
+unfoldable pub record_judged : Switching → Judgement
+record_judged s = passed_if (is_record s) Input
+
+-- its number, 0 where it passes
+abbrev pub record_refusal : Switching → ℕ
+record_refusal s = number_in (record_judged s)
 
 abbrev pub all_prices : List Float → Bool
 all_prices [] = true
 all_prices (c ∷ cs) = in_range_or_infinite f0 billion c && all_prices cs
 
--- 12, then 11, then 15
-unfoldable pub decide_refusal : Switching → List Float → SwitchConstraints → ℕ
-decide_refusal s curve constraints =
-    first_of (switch_refusal constraints) (first_of (cond (leb (length curve) most_depths) 0 11) (first_of (record_refusal s) (cond (all_prices curve) 0 15)))
+-- the settings, the size of the curve, the record, then its prices
+unfoldable pub decide_judged : Switching → List Float → SwitchConstraints → Judgement
+decide_judged s curve constraints =
+    and_then (switch_judged constraints) (and_then (passed_if (leb (length curve) most_depths) Size) (and_then (record_judged s) (passed_if (all_prices curve) Input)))
 
 -- ---- the answers, each with the record that stands after it; a refusal keeps the record
 abbrev pub at_first : ℕ → Switching
@@ -100,35 +101,18 @@ at_first target = record { width = target; rounds = 0; stall = f0 }
 -- the first decision is free
 unfoldable pub first_decision : ℕ → Decided
 first_decision target =
-    cond (leb target most_width) (record { answer = Width target; kept = at_first target }) (record { answer = Refused 11; kept = at_first 0 })
+    cond (leb target most_width) (record { answer = Ok target; kept = at_first target }) (record { answer = Err Size; kept = at_first 0 })
 
-abbrev pub decided_unless : ℕ → Switching → Switching → Decided
-decided_unless zero s t = record { answer = Width t.width; kept = t }
-decided_unless (suc refusal) s t = record { answer = Refused (suc refusal); kept = s }
+abbrev pub decided_if : Judgement → Switching → Switching → Decided
+decided_if (Ok passed) s t = record { answer = Ok t.width; kept = t }
+decided_if (Err refusal) s t = record { answer = Err refusal; kept = s }
 
 unfoldable pub decision : Switching → List Float → ℕ → SwitchConstraints → Decided
-decision s curve target constraints = decided_unless (decide_refusal s curve constraints) s (decided s curve target constraints)
+decision s curve target constraints = decided_if (decide_judged s curve constraints) s (decided s curve target constraints)
 
-abbrev pub collected_unless : ℕ → Switching → Collected
-collected_unless zero s = record { answer = Seconds s.stall; kept = collected s }
-collected_unless (suc refusal) s = record { answer = NotCollected (suc refusal); kept = s }
+abbrev pub collected_if : Judgement → Switching → Collected
+collected_if (Ok passed) s = record { answer = Ok s.stall; kept = collected s }
+collected_if (Err refusal) s = record { answer = Err refusal; kept = s }
 
 unfoldable pub collection : Switching → Collected
-collection s = collected_unless (record_refusal s) s
-
--- the refusal number of each answer, 0 where there is none, and its value
-abbrev pub answer_refusal : Answer → ℕ
-answer_refusal (Width w) = 0
-answer_refusal (Refused refusal) = refusal
-
-abbrev pub width_of : Answer → ℕ
-width_of (Width w) = w
-width_of (Refused refusal) = 0
-
-abbrev pub stall_refusal : Stall → ℕ
-stall_refusal (Seconds x) = 0
-stall_refusal (NotCollected refusal) = refusal
-
-abbrev pub seconds_of : Stall → Float
-seconds_of (Seconds x) = x
-seconds_of (NotCollected refusal) = f0
+collection s = collected_if (record_judged s) s

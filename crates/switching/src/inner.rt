@@ -36,11 +36,8 @@ pub fn candidates_of(curve: &[f64]) -> Candidates
         list: [0; 65],
         len: 0,
     };
-    let mut g = 0usize;
-    while g < curve.len() {
-        let next = found.with_depth(g as u32, curve[g]);
-        found = next;
-        g += 1;
+    for (g, price) in curve.iter().enumerate() {
+        found = found.with_depth(g as u32, *price);
     }
     found
 }
@@ -51,7 +48,7 @@ impl Switching {
         requires { self.rounds < 4294967295 }
         ensures { result ≡ counted self }
     {
-        self.rounds = self.rounds + 1;
+        self.rounds += 1;
         self
     }
 }
@@ -89,10 +86,5 @@ pub fn collected(held: Switching) -> Switching
 fn is_due(constraints: SwitchConstraints, rounds: u32) -> bool
     ensures { result ≡ is_due constraints rounds }
 {
-    let cooldown = constraints.cooldown_rounds;
-    if cooldown < 1 {
-        1 <= rounds
-    } else {
-        cooldown <= rounds
-    }
+    constraints.cooldown_rounds.max(1) <= rounds
 }

@@ -3,8 +3,9 @@
 #![tactic(auto)]
 
 ghost use Rattle.std.specs.Prelude.{◌≡◌};
-ghost use Rattle.switching.specs.Deciding.{walked, collected, record_refusal, all_prices, decide_refusal, first_decision, decision, collection};
+ghost use Rattle.switching.specs.Deciding.{walked, collected, at_first, record_judged, all_prices, decide_judged, first_decision, decision, collection};
 
+use refusals::Refusal;
 use switch_settings::SwitchConstraints;
 
 pub mod inner;
@@ -17,31 +18,17 @@ pub struct Switching {
     pub stall: f64,
 }
 
-// What a decision answers: the width, or the number of the refusal.
-#[derive(Clone, Copy)]
-pub enum Answer {
-    Width(u32),
-    Refused(u64),
-}
-
-// The answer, and the record that stands after it.
+// The width that is decided, and the record that stands after the decision.
 #[derive(Clone, Copy)]
 pub struct Decided {
-    pub answer: Answer,
+    pub answer: Result<u32, Refusal>,
     pub kept: Switching,
 }
 
-// What collecting answers: the stall, or the number of the refusal.
-#[derive(Clone, Copy)]
-pub enum Stall {
-    Seconds(f64),
-    Refused(u64),
-}
-
-// The answer, and the record that stands after it.
+// The stall that is collected, and the record that stands after it.
 #[derive(Clone, Copy)]
 pub struct Collected {
-    pub answer: Stall,
+    pub answer: Result<f64, Refusal>,
     pub kept: Switching,
 }
 
@@ -55,6 +42,17 @@ const MOST_DEPTHS: usize = 65;
 const MOST_ROUNDS: u32 = 4294967294;
 
 impl Switching {
+    // The record after a first decision.
+    fn at_first(width: u32) -> Switching
+        ensures { result ≡ at_first width }
+    {
+        Switching {
+            width,
+            rounds: 0,
+            stall: 0.0,
+        }
+    }
+
     // The counter is reset and the width walks; a changed width adds its cost to the stall.
     pub fn walk(
         mut self,
@@ -69,7 +67,7 @@ impl Switching {
         self.rounds = 0;
         if next != self.width {
             self.width = next;
-            self.stall = self.stall + 1e-3 * constraints.cost_ms;
+            self.stall += 1e-3 * constraints.cost_ms;
         }
         self
     }
@@ -83,49 +81,42 @@ impl Switching {
     }
 }
 
-// 15 where the record is out of range; else 0.
-pub fn record_refusal(held: Switching) -> u64
-    ensures { result ≡ record_refusal held }
+// Refused as an input where the record is out of range.
+#[tactic(auto, unfolding(crate::specs::Deciding::record_judged))]
+pub fn judge_record(held: Switching) -> Result<(), Refusal>
+    ensures { result ≡ record_judged held }
 {
-    if MOST_WIDTH < held.width {
-        return 15;
-    }
-    if MOST_ROUNDS < held.rounds {
-        return 15;
-    }
-    if float::is_finite(held.stall) {
-        if float::is_clear(held.stall) { 0 } else { 15 }
+    let is_record = held.width <= MOST_WIDTH
+        && held.rounds <= MOST_ROUNDS
+        && float::is_finite(held.stall)
+        && float::is_clear(held.stall);
+    if is_record {
+        Ok(())
     } else {
-        15
+        Err(Refusal::Input)
     }
 }
 
-// A worker's first decision is free: the target is its width. 11 where that is above 64.
+// A worker's first decision is free: the target is its width. Refused for its size where that is above 64.
+#[tactic(auto, unfolding(crate::specs::Deciding::first_decision))]
 pub fn first(target: u32) -> Decided
     ensures { result ≡ first_decision target }
 {
     if MOST_WIDTH < target {
         return Decided {
-            answer: Answer::Refused(11),
-            kept: Switching {
-                width: 0,
-                rounds: 0,
-                stall: 0.0,
-            },
+            answer: Err(Refusal::Size),
+            kept: Switching::at_first(0),
         };
     }
     Decided {
-        answer: Answer::Width(target),
-        kept: Switching {
-            width: target,
-            rounds: 0,
-            stall: 0.0,
-        },
+        answer: Ok(target),
+        kept: Switching::at_first(target),
     }
 }
 
-// Every later decision counts a round and, when that is due, walks toward the target among the depths of finite price; 12, 11,
-// then 15, which keep the record.
+// Every later decision counts a round and, when that is due, walks toward the target among the depths of finite price. A refusal
+// keeps the record.
+#[tactic(auto, unfolding(crate::specs::Deciding::decision))]
 pub fn decide(
     held: Switching,
     curve: &[f64],
@@ -134,34 +125,35 @@ pub fn decide(
 ) -> Decided
     ensures { result ≡ decision held curve.now target constraints }
 {
-    let refusal = refusal_of(held, curve, constraints);
-    if 0 < refusal {
-        return Decided {
-            answer: Answer::Refused(refusal),
+    match judge(held, curve, constraints) {
+        Ok(()) => {
+            let kept = inner::decided(held, curve, target, constraints);
+            Decided {
+                answer: Ok(kept.width),
+                kept,
+            }
+        }
+        Err(refusal) => Decided {
+            answer: Err(refusal),
             kept: held,
-        };
-    }
-    let next = inner::decided(held, curve, target, constraints);
-    Decided {
-        answer: Answer::Width(next.width),
-        kept: next,
+        },
     }
 }
 
-// The stall of the record, which is cleared; 15, which keeps the record.
+// The stall of the record, which is cleared. A refusal keeps the record.
+#[tactic(auto, unfolding(crate::specs::Deciding::collection))]
 pub fn collect(held: Switching) -> Collected
     ensures { result ≡ collection held }
 {
-    let refusal = record_refusal(held);
-    if 0 < refusal {
-        return Collected {
-            answer: Stall::Refused(refusal),
+    match judge_record(held) {
+        Ok(()) => Collected {
+            answer: Ok(held.stall),
+            kept: held.collect(),
+        },
+        Err(refusal) => Collected {
+            answer: Err(refusal),
             kept: held,
-        };
-    }
-    Collected {
-        answer: Stall::Seconds(held.stall),
-        kept: held.collect(),
+        },
     }
 }
 
@@ -169,31 +161,27 @@ pub fn collect(held: Switching) -> Collected
 fn are_prices(curve: &[f64]) -> bool
     ensures { result ≡ all_prices curve.now }
 {
-    let mut g = 0usize;
-    while g < curve.len() {
-        if float::in_range_or_infinite(curve[g], 0.0, 1e9) {
-            g += 1;
-        } else {
+    for x in curve {
+        if !float::in_range_or_infinite(*x, 0.0, 1e9) {
             return false;
         }
     }
     true
 }
 
-// What is refused of a decision: 12, 11, then 15; else 0.
-fn refusal_of(held: Switching, curve: &[f64], constraints: SwitchConstraints) -> u64
-    ensures { result ≡ decide_refusal held curve.now constraints }
+// The settings, how many depths the curve has, the record, then the prices.
+#[tactic(auto, unfolding(crate::specs::Deciding::decide_judged))]
+fn judge(held: Switching, curve: &[f64], constraints: SwitchConstraints) -> Result<(), Refusal>
+    ensures { result ≡ decide_judged held curve.now constraints }
 {
-    let setting = switch_settings::switch_refusal(constraints);
-    if 0 < setting {
-        return setting;
-    }
+    switch_settings::judge_switch(constraints)?;
     if MOST_DEPTHS < curve.len() {
-        return 11;
+        return Err(Refusal::Size);
     }
-    let refusal = record_refusal(held);
-    if 0 < refusal {
-        return refusal;
+    judge_record(held)?;
+    if are_prices(curve) {
+        Ok(())
+    } else {
+        Err(Refusal::Input)
     }
-    if are_prices(curve) { 0 } else { 15 }
 }

@@ -5,7 +5,7 @@ use Rattle.switching.proofs.Slots.{slots_turn, slots_end}
 use Rattle.switching.proofs.inner.candidates_of.Goals as goal
 
 pub loop-g-preserved : goal.loop-g-preserved
-loop-g-preserved c = slots_turn c.args.curve.now c.loop-g.found _ c.loop-g.g (omega arith) c.loop-g-test.true c.with_depth-next.ensures c.loop-g.invariant
+loop-g-preserved c = slots_turn c.args.curve.now c.loop-g.found _ c.loop-g.g (omega arith) c.loop-g-test.true c.with_depth-found.ensures c.loop-g.invariant
 
 pub returns : goal.returns
 returns c = slots_end c.args.curve.now c.loop-g.found c.loop-g.g (omega arith) c.loop-g-test.false c.loop-g.invariant
