@@ -2,7 +2,7 @@
 ghost use Rattle.std.specs.Prelude.{◌≡◌};
 ghost use Rattle.exported_switching.specs.Answers.{switched, decided_told, collected_told};
 
-use switching::{Answer, Collected, Decided, Stall, Switching};
+use switching::{Collected, Decided, Switching};
 
 // The number of the refusal, 0 for none; the width decided or the bits of the stall collected, 0 where there is a refusal; and the record that is kept,
 // also by a refusal.
@@ -28,27 +28,22 @@ fn tell(refusal: u64, answer: u64, kept: Switching) -> Switched
     }
 }
 
+#[tactic(auto, unfolding(crate::specs::Answers::width_told))]
 pub fn of_decided(decided: Decided) -> Switched
     ensures { result ≡ decided_told decided }
 {
-    let answer = decided.answer;
-    let kept = decided.kept;
-    match answer {
-        Answer::Width(width) => tell(0, width as u64, kept),
-        Answer::Refused(number) => tell(number, 0, kept),
+    match decided.answer {
+        Ok(width) => tell(0, width as u64, decided.kept),
+        Err(refusal) => tell(refusal.number(), 0, decided.kept),
     }
 }
 
+#[tactic(auto, unfolding(crate::specs::Answers::stall_told))]
 pub fn of_collected(collected: Collected) -> Switched
     ensures { result ≡ collected_told collected }
 {
-    let answer = collected.answer;
-    let kept = collected.kept;
-    match answer {
-        Stall::Seconds(stall) => {
-            let bits = float::bits(stall);
-            tell(0, bits, kept)
-        }
-        Stall::Refused(number) => tell(number, 0, kept),
+    match collected.answer {
+        Ok(stall) => tell(0, float::bits(stall), collected.kept),
+        Err(refusal) => tell(refusal.number(), 0, collected.kept),
     }
 }

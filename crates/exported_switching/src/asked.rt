@@ -5,6 +5,7 @@ ghost use Rattle.exported_switching.specs.Asked.{step_of, switch_of};
 use switch_settings::{MaxStep, SwitchConstraints};
 
 // 0 any number of candidates a walk, any other number at most `max_step`.
+#[tactic(auto, unfolding(crate::specs::Asked::step_of))]
 pub fn step_of(steps: u32, max_step: u32) -> MaxStep
     ensures { result ≡ step_of steps max_step }
 {

@@ -33,7 +33,7 @@ pub extern "C" fn switch_settings_switch_refusal(
     ensures { result ≡ switch_refusal (switch_of cooldown_rounds steps max_step cost_ms) }
 {
     let switch = asked::switch_of(cooldown_rounds, steps, max_step, cost_ms);
-    switch_settings::switch_refusal(switch)
+    refusals::number_in(switch_settings::judge_switch(switch))
 }
 
 // The width after one walk.
@@ -61,5 +61,5 @@ pub extern "C" fn switching_record_refusal(width: u32, rounds: u32, stall: f64) 
         rounds,
         stall,
     };
-    switching::record_refusal(held)
+    refusals::number_in(switching::judge_record(held))
 }

@@ -5,8 +5,9 @@ ghost use Rattle.std.specs.Prelude.{◌≤◌, length};
 
 use crate::kinds;
 use cases::{answers, lists, words};
+use refusals::Refusal;
 use switch_settings::{MaxStep, SwitchConstraints};
-use switching::{Answer, Collected, Decided, Stall, Switching};
+use switching::{Collected, Decided, Switching};
 
 pub fn print(rt: HostRuntime, counts: &[u64]) {
     kinds::print(
@@ -105,12 +106,12 @@ fn put_decided(ours: &mut [u64], d: Decided) -> usize
     put_record(ours, at, d.kept)
 }
 
-fn put_answer(ours: &mut [u64], answer: Answer) -> usize
+fn put_answer(ours: &mut [u64], answer: Result<u32, Refusal>) -> usize
     ensures { result ≤ length ours.new }
 {
     match answer {
-        Answer::Width(width) => answers::two(ours, 0, width as u64),
-        Answer::Refused(number) => answers::two(ours, number, 0),
+        Ok(width) => answers::two(ours, 0, width as u64),
+        Err(refusal) => answers::two(ours, refusal.number(), 0),
     }
 }
 
@@ -129,7 +130,7 @@ pub fn setting(kind: u8, input: &[u64], ours: &mut [u64]) -> usize
     if kind == b'u' {
         return answers::one(
             ours,
-            switch_settings::switch_refusal(constraints_at(input, 0, 1, 2, 3)),
+            refusals::number_in(switch_settings::judge_switch(constraints_at(input, 0, 1, 2, 3))),
         );
     }
     if kind == b'a' {
@@ -155,7 +156,7 @@ fn record(kind: u8, held: Switching, ours: &mut [u64]) -> usize
     ensures { result ≤ length ours.new }
 {
     if kind == b'o' {
-        return answers::one(ours, switching::record_refusal(held));
+        return answers::one(ours, refusals::number_in(switching::judge_record(held)));
     }
     if kind == b'e' {
         return put_collected(ours, switching::collect(held));
@@ -175,11 +176,11 @@ fn put_collected(ours: &mut [u64], d: Collected) -> usize
     put_record(ours, at, d.kept)
 }
 
-fn put_stall(ours: &mut [u64], answer: Stall) -> usize
+fn put_stall(ours: &mut [u64], answer: Result<f64, Refusal>) -> usize
     ensures { result ≤ length ours.new }
 {
     match answer {
-        Stall::Seconds(value) => answers::two(ours, 0, float::bits(value)),
-        Stall::Refused(number) => answers::two(ours, number, 0),
+        Ok(value) => answers::two(ours, 0, float::bits(value)),
+        Err(refusal) => answers::two(ours, refusal.number(), 0),
     }
 }

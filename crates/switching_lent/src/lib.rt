@@ -4,8 +4,9 @@
 ghost use Rattle.std.specs.Prelude.{◌≡◌};
 ghost use Rattle.switching.specs.Deciding.{decision, collection};
 
+use refusals::Refusal;
 use switch_settings::SwitchConstraints;
-use switching::{Answer, Collected, Decided, Stall, Switching};
+use switching::{Collected, Decided, Switching};
 
 // A decision on the record where it stands; a refusal leaves it as it was.
 pub fn decide_lent(
@@ -13,7 +14,7 @@ pub fn decide_lent(
     curve: &[f64],
     target: u32,
     constraints: SwitchConstraints,
-) -> Answer
+) -> Result<u32, Refusal>
     ensures { record { answer = result; kept = r.new } ≡ decision r.old curve.now target constraints }
 {
     let held = *r;
@@ -23,7 +24,7 @@ pub fn decide_lent(
 }
 
 // Collects from the record where it stands; a refusal leaves it as it was.
-pub fn collect_lent(r: &mut Switching) -> Stall
+pub fn collect_lent(r: &mut Switching) -> Result<f64, Refusal>
     ensures { record { answer = result; kept = r.new } ≡ collection r.old }
 {
     let held = *r;

@@ -3,16 +3,17 @@ use mathlib.Core.List.{List}
 use mathlib.Core.Path.{◌≡◌}
 use Prim.Native.Nat.{ℕ}
 use lib.Ieee.{Float}
+use Rattle.refusals.specs.Refusals.{Judgement}
 use Rattle.switch_settings.specs.declared.SwitchConstraints.{SwitchConstraints}
-use Rattle.switching.specs.Deciding.{collection, decision, first_decision, record_refusal}
+use Rattle.switching.specs.Deciding.{collection, decision, first_decision, record_judged}
 use Rattle.switching.specs.declared.Collected.{Collected}
 use Rattle.switching.specs.declared.Decided.{Decided}
 use Rattle.switching.specs.declared.Switching.{Switching}
 use Rattle.unique.specs.Only.{OnlyOne}
 use Rattle.unique.proofs.Law.{once}
 
-pub record_refusal_once : (held : Switching) → OnlyOne (λ (r : ℕ). r ≡ record_refusal held)
-record_refusal_once held x y p q = once p q
+pub judge_record_once : (held : Switching) → OnlyOne (λ (r : Judgement). r ≡ record_judged held)
+judge_record_once held x y p q = once p q
 
 pub first_once : (target : ℕ) → OnlyOne (λ (d : Decided). d ≡ first_decision target)
 first_once target x y p q = once p q
