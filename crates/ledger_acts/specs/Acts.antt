@@ -1,5 +1,7 @@
--- What a plan and a collection are refused for, 0 for nothing, and what they leave in the words once nothing is refused, on any content.
-use Rattle.std.specs.Prelude.{cond, List, ℕ, ◌+◌, ltb, get_or}
+-- What a plan and a collection are refused for, and what they leave in the words once nothing is refused, on any content.
+use Rattle.std.specs.Prelude.{cond, List, ℕ, ◌+◌, ltb, get_or, Ok}
+use Rattle.refusals.specs.declared.Refusal.TheVariants.{WorkerRoom, SecondRoom, StepRoom}
+use Rattle.refusals.specs.Refusals.{Judgement, passed_if, number_in}
 use Rattle.ledger_rows.specs.declared.layout.Place.{Place}
 use Rattle.ledger_rows.specs.declared.layout.Past.{Past}
 use Rattle.ledger_rows.specs.declared.layout.Step.{Step}
@@ -8,19 +10,26 @@ use Rattle.ledger_seconds.specs.Seconds.{second_place, step_added}
 use Rattle.ledger_workers.specs.Workers.{worker_place, worker_put}
 use Rattle.ledger_changes.specs.Changes.{change_laid, no_step, pushed}
 
--- 19: the second has as many steps as there may be; 18: it is new and as many seconds are held as there may be
-unfoldable pub place_refusal : List ℕ → Place → ℕ
-place_refusal ws p =
+-- a step at a second whose place is known: the second has fewer steps than there may be; a new one finds room
+unfoldable pub place_allows : List ℕ → Place → Judgement
+place_allows ws p =
     cond p.known
-    (cond (ltb (get_or ws (second_at p.row + steps_in) 0) steps_most) 0 19)
-    (cond (ltb p.rows seconds_most) 0 18)
+    (passed_if (ltb (get_or ws (second_at p.row + steps_in) 0) steps_most) StepRoom)
+    (passed_if (ltb p.rows seconds_most) SecondRoom)
 
-unfoldable pub step_refusal : List ℕ → ℕ → ℕ
-step_refusal ws t = place_refusal ws (second_place ws t)
+unfoldable pub step_allows : List ℕ → ℕ → Judgement
+step_allows ws t = place_allows ws (second_place ws t)
 
--- 17: the worker is new and as many are held as there may be
-unfoldable pub worker_refusal : List ℕ → ℕ → ℕ → ℕ
-worker_refusal ws a b = cond (worker_place ws a b).known 0 (cond (ltb (worker_place ws a b).rows workers_most) 0 17)
+-- a worker's record: the worker is known, or finds room
+unfoldable pub worker_allows : List ℕ → ℕ → ℕ → Judgement
+worker_allows ws a b = cond (worker_place ws a b).known (Ok tt) (passed_if (ltb (worker_place ws a b).rows workers_most) WorkerRoom)
+
+-- what they are refused for by number: 18 or 19, and 17
+abbrev pub step_refusal : List ℕ → ℕ → ℕ
+step_refusal ws t = number_in (step_allows ws t)
+
+abbrev pub worker_refusal : List ℕ → ℕ → ℕ → ℕ
+worker_refusal ws a b = number_in (worker_allows ws a b)
 
 -- a plan of no worker: its step is added, and the change is kept
 unfoldable pub plain_done : List ℕ → Step → List ℕ

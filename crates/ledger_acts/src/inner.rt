@@ -3,50 +3,55 @@ ghost use Rattle.std.specs.Prelude.{◌≡◌, true, ◌≤◌, ◌<◌, length}
 ghost use Rattle.ledger_rows.specs.Layout.{room, seconds_most};
 ghost use Rattle.ledger_seconds.specs.Seconds.{second_place};
 ghost use Rattle.ledger_workers.specs.Workers.{past_of};
-ghost use Rattle.ledger_acts.specs.Acts.{place_refusal, step_refusal, worker_refusal, plain_done, decided_done, collected_done};
+ghost use Rattle.ledger_acts.specs.Acts.{place_allows, step_allows, worker_allows, plain_done, decided_done, collected_done};
 
 use ledger_rows::layout::{Place, SECONDS_MOST, STEPS_MOST, Step, WORKERS_MOST};
+use refusals::Refusal;
 
-// What a step of a second whose place was found is refused for: 18 or 19, or 0.
-pub fn place_refusal(storage: &[u64], found: Place) -> u64
+// Whether a second whose place was found takes a step more.
+#[tactic(auto, unfolding(crate::specs::Acts::place_allows))]
+pub fn judge_place(storage: &[u64], found: Place) -> Result<(), Refusal>
     requires { (found.known ≡ true → found.row < seconds_most) × (room ≤ length storage.now) }
-    ensures { result ≡ place_refusal storage.now found }
+    ensures { result ≡ place_allows storage.now found }
 {
-    let row = found.row;
     if found.known {
-        if ledger_seconds::inner::steps(storage, row) < STEPS_MOST {
-            0
+        if ledger_seconds::inner::steps(storage, found.row) < STEPS_MOST {
+            Ok(())
         } else {
-            19
+            Err(Refusal::StepRoom)
         }
+    } else if found.rows < SECONDS_MOST {
+        Ok(())
     } else {
-        if found.rows < SECONDS_MOST { 0 } else { 18 }
+        Err(Refusal::SecondRoom)
     }
 }
 
-// What a step at `second` is refused for: 18 or 19, or 0.
-pub fn step_refusal(storage: &[u64], second: u64) -> u64
+// Whether `second` takes a step more.
+#[tactic(auto, unfolding(crate::specs::Acts::step_allows), using(crate::proofs::Ways::known_row))]
+pub fn judge_step(storage: &[u64], second: u64) -> Result<(), Refusal>
     requires { room ≤ length storage.now }
-    ensures { result ≡ step_refusal storage.now second }
+    ensures { result ≡ step_allows storage.now second }
 {
-    let found = ledger_seconds::inner::place(storage, second);
-    place_refusal(storage, found)
+    judge_place(storage, ledger_seconds::inner::place(storage, second))
 }
 
-// What a worker's record is refused for: 17, or 0.
-pub fn worker_refusal(storage: &[u64], a: u64, b: u64) -> u64
+// Whether there is a worker's record, or room for it.
+#[tactic(auto, unfolding(crate::specs::Acts::worker_allows))]
+pub fn judge_worker(storage: &[u64], a: u64, b: u64) -> Result<(), Refusal>
     requires { room ≤ length storage.now }
-    ensures { result ≡ worker_refusal storage.now a b }
+    ensures { result ≡ worker_allows storage.now a b }
 {
     let found = ledger_workers::inner::place(storage, a, b);
-    if found.known {
-        0
+    if found.known || found.rows < WORKERS_MOST {
+        Ok(())
     } else {
-        if found.rows < WORKERS_MOST { 0 } else { 17 }
+        Err(Refusal::WorkerRoom)
     }
 }
 
 // A plan of no worker done, its second's place being found: its step is added, and the change is kept.
+#[tactic(auto, unfolding(crate::specs::Acts::plain_done))]
 pub fn act_plain(storage: &mut [u64], found: Place, step: Step)
     requires { (found ≡ second_place storage.old step.second) × (room ≤ length storage.old) }
     ensures { storage.new ≡ plain_done storage.old step }
@@ -69,6 +74,7 @@ pub fn act_plain(storage: &mut [u64], found: Place, step: Step)
 }
 
 // A plan of a worker done, its second's place being found: its step is added, its record is put, and the change is kept with the record from before.
+#[tactic(auto, unfolding(crate::specs::Acts::decided_done))]
 pub fn act_decided(
     storage: &mut [u64],
     found: Place,
@@ -102,6 +108,7 @@ pub fn act_decided(
 }
 
 // A known worker's stall cleared, and the change kept.
+#[tactic(auto, unfolding(crate::specs::Acts::collected_done))]
 pub fn act_collect(storage: &mut [u64], a: u64, b: u64, width: u64, rounds: u64, stall: u64)
     requires { room ≤ length storage.old }
     ensures { storage.new ≡ collected_done storage.old a b (record { kind = 2; width = width; rounds = rounds; stall = stall }) }

@@ -1,13 +1,9 @@
-// What is answered for a row: its second with the drafts, the sequences, the committed and the steps added up in it; that there is no such row; or a refusal.
+// What is answered for a row: its second with the drafts, the sequences, the committed and the steps added up in it.
 #[derive(Clone, Copy)]
-pub enum Sums {
-    Of {
-        second: u64,
-        drafts: u64,
-        sequences: u64,
-        committed: u64,
-        steps: u64,
-    },
-    Past,
-    Refused(u64),
+pub struct Sums {
+    pub second: u64,
+    pub drafts: u64,
+    pub sequences: u64,
+    pub committed: u64,
+    pub steps: u64,
 }

@@ -8,29 +8,26 @@ ghost use Rattle.ledger_sums.specs.Sums.{sums_of};
 
 use crate::answer::Sums;
 use ledger_rows::layout::{COMMITTED, DRAFTS, ROOM, SECOND, SECONDS, SEQUENCES, STEPS};
+use refusals::Refusal;
 
 // The second in row `row`, counted from 0 in ascending order, with its sums; past the last one there is none.
-pub fn sums(storage: &[u64], row: u64) -> Sums
+#[tactic(auto, unfolding(crate::specs::Sums::sums_of))]
+pub fn sums(storage: &[u64], row: u64) -> Result<Option<Sums>, Refusal>
     ensures { result ≡ sums_of storage.now row }
 {
     if storage.len() < ROOM {
-        return Sums::Refused(16);
+        return Err(Refusal::ShortBuffer);
     }
     let rows = ledger_seconds::inner::held(storage) as u64;
     if rows <= row {
-        return Sums::Past;
+        return Ok(None);
     }
     let at = SECONDS + SECOND * row as usize;
-    let second = storage[at];
-    let drafts = storage[at + DRAFTS];
-    let sequences = storage[at + SEQUENCES];
-    let committed = storage[at + COMMITTED];
-    let steps = storage[at + STEPS];
-    Sums::Of {
-        second,
-        drafts,
-        sequences,
-        committed,
-        steps,
-    }
+    Ok(Some(Sums {
+        second: storage[at],
+        drafts: storage[at + DRAFTS],
+        sequences: storage[at + SEQUENCES],
+        committed: storage[at + COMMITTED],
+        steps: storage[at + STEPS],
+    }))
 }
