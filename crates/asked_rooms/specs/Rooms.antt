@@ -1,4 +1,4 @@
--- 16: which of the buffers that a plan uses are too short. Assumes nothing.
+-- Which of the buffers that a plan uses are too short. Assumes nothing.
 use Rattle.std.specs.Prelude.{ℕ, ◌+◌, ◌*◌, Bool, true, ◌&&◌, cond, leb}
 use Rattle.acceptance.specs.declared.AcceptanceModel.{AcceptanceModel}
 use Rattle.acceptance.specs.declared.AcceptanceModel.TheVariants.{Constant, PerPosition, Trace}
@@ -6,6 +6,8 @@ use Rattle.speculative.specs.declared.drafter.DrafterCost.{DrafterCost}
 use Rattle.speculative.specs.declared.drafter.DrafterCost.TheVariants.{Fraction, Autoregressive, BlockParallel}
 use Rattle.goodput.specs.declared.curve.Source.{Source}
 use Rattle.goodput.specs.declared.curve.Source.TheVariants.{Roofline, Table}
+use Rattle.refusals.specs.declared.Refusal.TheVariants.{ShortBuffer}
+use Rattle.refusals.specs.Refusals.{Judgement, passed_if, number_in}
 use Rattle.ledger_rows.specs.Layout.{room}
 use Rattle.settings.specs.declared.Policy.{Policy}
 use Rattle.settings.specs.declared.Policy.TheVariants.{Fixed, GoodputBudget, GatedBudget, GatedAggregate}
@@ -46,7 +48,12 @@ bank_rooms (Constant alpha) policy gamma depth rounds l = true
 bank_rooms PerPosition policy gamma depth rounds l = true
 bank_rooms Trace policy gamma depth rounds l = leb rounds l.bank_commits && signal_rooms policy gamma depth rounds l
 
-unfoldable pub rooms_refusal : Settings → Ask → Lengths → ℕ
-rooms_refusal s a l =
+-- all of them
+unfoldable pub rooms_judged : Settings → Ask → Lengths → Judgement
+rooms_judged s a l =
     let gamma = gamma_in s a.depth in
-    cond (own_rooms a.sequences l && (cost_rooms s.policy s.drafter a.source gamma a.sequences a.rows l && bank_rooms s.model s.policy gamma a.depth a.rounds l)) 0 16
+    passed_if (own_rooms a.sequences l && (cost_rooms s.policy s.drafter a.source gamma a.sequences a.rows l && bank_rooms s.model s.policy gamma a.depth a.rounds l)) ShortBuffer
+
+-- its number, 0 where it passes
+abbrev pub rooms_refusal : Settings → Ask → Lengths → ℕ
+rooms_refusal s a l = number_in (rooms_judged s a l)

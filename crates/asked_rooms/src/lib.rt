@@ -1,4 +1,4 @@
-// The sizes (11) and the rooms (16) of what a plan is asked with, for `asking`, which judges the values behind them.
+// The sizes and the rooms of what a plan is asked with, for `asking`, which judges the values behind them.
 #![tactic(auto)]
 
 pub mod rooms;

@@ -1,12 +1,13 @@
-// 16: the lengths of what a plan is lent.
+// The lengths of what a plan is lent.
 ghost use Rattle.std.specs.Prelude.{◌≡◌, ◌*◌};
 ghost use Rattle.settings.specs.Settings.{uses_costs};
-ghost use Rattle.asked_rooms.specs.Rooms.{own_rooms, price_rooms, loaded_room, cost_rooms, signal_rooms, bank_rooms, rooms_refusal};
+ghost use Rattle.asked_rooms.specs.Rooms.{own_rooms, price_rooms, loaded_room, cost_rooms, signal_rooms, bank_rooms, rooms_judged};
 
 use crate::{Ask, Lengths};
 use acceptance::AcceptanceModel;
 use goodput::curve::Source;
 use ledger_rows::layout::ROOM;
+use refusals::Refusal;
 use settings::{Policy, Settings};
 use speculative::drafter::DrafterCost;
 
@@ -14,13 +15,7 @@ use speculative::drafter::DrafterCost;
 fn own_rooms(n: usize, l: Lengths) -> bool
     ensures { result ≡ own_rooms n l }
 {
-    if l.storage < ROOM {
-        return false;
-    }
-    if l.drafts < n {
-        return false;
-    }
-    n <= l.commits
+    ROOM <= l.storage && n <= l.drafts && n <= l.commits
 }
 
 // Whether the roofline has gamma + 1 entries, or each column of the table its rows.
@@ -29,15 +24,7 @@ pub fn price_rooms(source: Source, gamma: usize, rows: usize, l: Lengths) -> boo
 {
     match source {
         Source::Roofline => gamma < l.roofline,
-        Source::Table => {
-            if l.depths < rows {
-                return false;
-            }
-            if l.batches < rows {
-                return false;
-            }
-            rows <= l.seconds
-        }
+        Source::Table => rows <= l.depths && rows <= l.batches && rows <= l.seconds,
     }
 }
 
@@ -46,9 +33,8 @@ fn loaded_room(drafter: DrafterCost, n: usize, l: Lengths) -> bool
     ensures { result ≡ loaded_room drafter n l }
 {
     match drafter {
-        DrafterCost::Fraction { .. } => true,
         DrafterCost::Autoregressive { .. } => n < l.loaded,
-        DrafterCost::BlockParallel { .. } => true,
+        DrafterCost::Fraction { .. } | DrafterCost::BlockParallel { .. } => true,
     }
 }
 
@@ -58,9 +44,7 @@ pub fn uses_costs(policy: Policy) -> bool
 {
     match policy {
         Policy::Fixed => false,
-        Policy::GoodputBudget => true,
-        Policy::GatedBudget => true,
-        Policy::GatedAggregate => true,
+        Policy::GoodputBudget | Policy::GatedBudget | Policy::GatedAggregate => true,
     }
 }
 
@@ -76,15 +60,7 @@ fn cost_rooms(
 ) -> bool
     ensures { result ≡ cost_rooms policy drafter source gamma n rows l }
 {
-    if uses_costs(policy) {
-        if price_rooms(source, gamma, rows, l) {
-            loaded_room(drafter, n, l)
-        } else {
-            false
-        }
-    } else {
-        true
-    }
+    !uses_costs(policy) || price_rooms(source, gamma, rows, l) && loaded_room(drafter, n, l)
 }
 
 // How many signals the rounds of a bank have.
@@ -101,8 +77,7 @@ fn signal_rooms(policy: Policy, gamma: usize, depth: u32, rounds: u32, l: Length
     match policy {
         Policy::Fixed => true,
         Policy::GoodputBudget => gamma < l.bank_curve,
-        Policy::GatedBudget => signals_of(rounds, depth) <= l.signals,
-        Policy::GatedAggregate => signals_of(rounds, depth) <= l.signals,
+        Policy::GatedBudget | Policy::GatedAggregate => signals_of(rounds, depth) <= l.signals,
     }
 }
 
@@ -118,36 +93,42 @@ fn bank_rooms(
     ensures { result ≡ bank_rooms model policy gamma depth rounds l }
 {
     match model {
-        AcceptanceModel::Constant(_) => true,
-        AcceptanceModel::PerPosition => true,
+        AcceptanceModel::Constant(_) | AcceptanceModel::PerPosition => true,
         AcceptanceModel::Trace => {
-            if l.bank_commits < rounds as usize {
-                return false;
-            }
-            signal_rooms(policy, gamma, depth, rounds, l)
+            rounds as usize <= l.bank_commits && signal_rooms(policy, gamma, depth, rounds, l)
         }
     }
 }
 
-// 16 where a buffer that the plan uses is too short; else 0.
-pub fn rooms_refusal(settings: Settings, ask: Ask, lengths: Lengths) -> u64
-    ensures { result ≡ rooms_refusal settings ask lengths }
+// Refused where a buffer that the plan uses is too short.
+#[tactic(auto, unfolding(crate::specs::Rooms::rooms_judged))]
+pub fn judge_rooms(settings: Settings, ask: Ask, lengths: Lengths) -> Result<(), Refusal>
+    ensures { result ≡ rooms_judged settings ask lengths }
 {
     let gamma = settings::gamma_in(settings, ask.depth) as usize;
     let n = ask.sequences as usize;
-    if !own_rooms(n, lengths) {
-        return 16;
-    }
     let policy = settings.policy;
-    let drafter = settings.drafter;
-    let source = ask.source;
-    if !cost_rooms(policy, drafter, source, gamma, n, ask.rows, lengths) {
-        return 16;
-    }
-    let model = settings.model;
-    if bank_rooms(model, policy, gamma, ask.depth, ask.rounds, lengths) {
-        0
+    if own_rooms(n, lengths)
+        && cost_rooms(
+            policy,
+            settings.drafter,
+            ask.source,
+            gamma,
+            n,
+            ask.rows,
+            lengths,
+        )
+        && bank_rooms(
+            settings.model,
+            policy,
+            gamma,
+            ask.depth,
+            ask.rounds,
+            lengths,
+        )
+    {
+        Ok(())
     } else {
-        16
+        Err(Refusal::ShortBuffer)
     }
 }

@@ -1,9 +1,10 @@
-// 11: the sizes of what a plan is asked with.
+// The sizes of what a plan is asked with.
 ghost use Rattle.std.specs.Prelude.{◌≡◌};
-ghost use Rattle.asked_rooms.specs.Sizes.{bank_fits, table_fits, sizes_refusal};
+ghost use Rattle.asked_rooms.specs.Sizes.{bank_fits, table_fits, sizes_judged};
 
 use acceptance::AcceptanceModel;
 use goodput::curve::Source;
+use refusals::Refusal;
 
 // The most drafts, sequences, rounds of a bank, and rows of a table.
 const MOST_GAMMA: u32 = 64;
@@ -19,17 +20,8 @@ fn bank_fits(model: AcceptanceModel, depth: u32, rounds: u32) -> bool
     ensures { result ≡ bank_fits model depth rounds }
 {
     match model {
-        AcceptanceModel::Constant(_) => true,
-        AcceptanceModel::PerPosition => true,
-        AcceptanceModel::Trace => {
-            if depth < 1 {
-                return false;
-            }
-            if MOST_GAMMA < depth {
-                return false;
-            }
-            rounds <= MOST_ROUNDS
-        }
+        AcceptanceModel::Constant(_) | AcceptanceModel::PerPosition => true,
+        AcceptanceModel::Trace => 1 <= depth && depth <= MOST_GAMMA && rounds <= MOST_ROUNDS,
     }
 }
 
@@ -43,9 +35,9 @@ fn table_fits(source: Source, rows: usize) -> bool
     }
 }
 
-// 11 where gamma, the number of sequences, a trace's bank or a table is too large; else 0.
-#[tactic(auto, using(crate::proofs::Ways::gamma_large))]
-pub fn sizes_refusal(
+// Refused where gamma, the number of sequences, a trace's bank or a table is too large.
+#[tactic(auto, unfolding(crate::specs::Sizes::sizes_judged))]
+pub fn judge_sizes(
     model: AcceptanceModel,
     gamma: u32,
     n: u32,
@@ -53,18 +45,13 @@ pub fn sizes_refusal(
     rounds: u32,
     source: Source,
     rows: usize,
-) -> u64
-    ensures { result ≡ sizes_refusal model gamma n depth rounds source rows }
+) -> Result<(), Refusal>
+    ensures { result ≡ sizes_judged model gamma n depth rounds source rows }
 {
-    if MOST_GAMMA < gamma {
-        return 11;
-    }
-    if MOST_SEQUENCES < n {
-        return 11;
-    }
-    if bank_fits(model, depth, rounds) {
-        if table_fits(source, rows) { 0 } else { 11 }
+    let few = gamma <= MOST_GAMMA && n <= MOST_SEQUENCES;
+    if few && bank_fits(model, depth, rounds) && table_fits(source, rows) {
+        Ok(())
     } else {
-        11
+        Err(Refusal::Size)
     }
 }

@@ -1,18 +1,22 @@
 -- What of the settings is refused, and the depth that a plan may draft to. Assumes nothing.
 use Rattle.std.specs.Prelude.{ℕ, min, Bool, true, false, List, Float}
-use Rattle.refusals.specs.Refusals.{first_of}
-use Rattle.acceptance.specs.Acceptance.{model_refusal}
+use Rattle.refusals.specs.Refusals.{Judgement, and_then, number_in}
+use Rattle.acceptance.specs.Acceptance.{model_judged}
 use Rattle.acceptance.specs.declared.AcceptanceModel.{AcceptanceModel}
 use Rattle.acceptance.specs.declared.AcceptanceModel.TheVariants.{Constant, PerPosition, Trace}
-use Rattle.speculative.specs.Drafter.{drafter_refusal}
-use Rattle.switch_settings.specs.Switch.{switch_refusal}
+use Rattle.speculative.specs.Drafter.{drafter_judged}
+use Rattle.switch_settings.specs.Switch.{switch_judged}
 use Rattle.settings.specs.declared.Policy.{Policy}
 use Rattle.settings.specs.declared.Policy.TheVariants.{Fixed, GoodputBudget, GatedBudget, GatedAggregate}
 use Rattle.settings.specs.declared.Settings.{Settings}
 
--- 12: the model or a position, the drafter or the switch settings are out of range, used or not
-unfoldable pub settings_refusal : Settings → List Float → ℕ
-settings_refusal s positions = first_of (model_refusal s.model positions) (first_of (drafter_refusal s.drafter) (switch_refusal s.switch))
+-- the model with its positions, the drafter, the switch settings, used or not
+unfoldable pub settings_judged : Settings → List Float → Judgement
+settings_judged s positions = and_then (model_judged s.model positions) (and_then (drafter_judged s.drafter) (switch_judged s.switch))
+
+-- its number, 0 where it passes
+abbrev pub settings_refusal : Settings → List Float → ℕ
+settings_refusal s positions = number_in (settings_judged s positions)
 
 -- an analytic model does not cap gamma; a trace does, at the depth of its bank
 abbrev pub capped_by : AcceptanceModel → ℕ → ℕ → ℕ

@@ -9,8 +9,7 @@ pub fn capped(model: AcceptanceModel, gamma: u32, depth: u32) -> u32
     ensures { result ≡ capped_by model gamma depth }
 {
     match model {
-        AcceptanceModel::Constant(_) => gamma,
-        AcceptanceModel::PerPosition => gamma,
-        AcceptanceModel::Trace => { if depth < gamma { depth } else { gamma } }
+        AcceptanceModel::Constant(_) | AcceptanceModel::PerPosition => gamma,
+        AcceptanceModel::Trace => gamma.min(depth),
     }
 }

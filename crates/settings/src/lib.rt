@@ -4,9 +4,10 @@
 pub mod inner;
 
 ghost use Rattle.std.specs.Prelude.{◌≡◌};
-ghost use Rattle.settings.specs.Settings.{settings_refusal, gamma_in};
+ghost use Rattle.settings.specs.Settings.{settings_judged, gamma_in};
 
 use acceptance::AcceptanceModel;
+use refusals::Refusal;
 use speculative::drafter::DrafterCost;
 use switch_settings::SwitchConstraints;
 use verify_prices::PriceMode;
@@ -36,36 +37,24 @@ pub struct Settings {
     pub prices: PriceMode,
 }
 
-// 12 where the model or its positions, the drafter or the switch settings are out of range, used or not; else 0.
-#[tactic(auto, using(refusals::proofs::First::goes_first, refusals::proofs::First::goes_next), unfolding(crate::specs::Settings::settings_refusal))]
-pub fn settings_refusal(settings: Settings, positions: &[f64]) -> u64
-    ensures { result ≡ settings_refusal settings positions.now }
+// Refused as a setting where the model or its positions, the drafter or the switch settings are out of range, used or not.
+#[tactic(auto, unfolding(crate::specs::Settings::settings_judged))]
+pub fn judge_settings(settings: Settings, positions: &[f64]) -> Result<(), Refusal>
+    ensures { result ≡ settings_judged settings positions.now }
 {
-    let model = settings.model;
-    let drafter = settings.drafter;
-    let switch = settings.switch;
-    let of_model = acceptance::model_refusal(model, positions);
-    if 0 < of_model {
-        return of_model;
-    }
-    let of_drafter = speculative::drafter::drafter_refusal(drafter);
-    if 0 < of_drafter {
-        return of_drafter;
-    }
-    switch_settings::switch_refusal(switch)
+    acceptance::judge_model(settings.model, positions)?;
+    speculative::drafter::judge_drafter(settings.drafter)?;
+    switch_settings::judge_switch(settings.switch)
 }
 
 // The depth that a plan may draft to: gamma, which all policies but `Fixed` cap at the depth of the bank, where there is one.
 pub fn gamma_in(settings: Settings, depth: u32) -> u32
     ensures { result ≡ gamma_in settings depth }
 {
-    let gamma = settings.gamma;
-    let model = settings.model;
-    let policy = settings.policy;
-    match policy {
-        Policy::Fixed => gamma,
-        Policy::GoodputBudget => inner::capped(model, gamma, depth),
-        Policy::GatedBudget => inner::capped(model, gamma, depth),
-        Policy::GatedAggregate => inner::capped(model, gamma, depth),
+    match settings.policy {
+        Policy::Fixed => settings.gamma,
+        Policy::GoodputBudget | Policy::GatedBudget | Policy::GatedAggregate => {
+            inner::capped(settings.model, settings.gamma, depth)
+        }
     }
 }
