@@ -19,70 +19,71 @@ use Rattle.cost_rows.specs.Prune.{kept}
 use Rattle.cost_rows.proofs.Sorting.{sorted_length}
 use Rattle.cost_rows.proofs.Composed.{read_back, arranged, kept_fewer, over_over}
 use Rattle.cost_rows.proofs.Pruned.{stays_nonempty}
-use Rattle.table_line.specs.declared.line.Line.{Line}
-use Rattle.table_line.specs.declared.line.Line.TheVariants.{Blank, Row as RowSaid, Refused as Wrong}
-use Rattle.measured.specs.declared.Answer.{Answer}
-use Rattle.measured.specs.declared.Answer.TheVariants.{Table, Refused}
-use Rattle.table_line.specs.Line.{line_read}
-use Rattle.measured.specs.Judge.{header_right, rows_in, unless_refused, judge_rows, judge_lines, judged}
+use Rattle.std.proofs.Common.{Some, None, Ok, Err}
+use Rattle.refusals.specs.declared.Refusal.{Refusal}
+use Rattle.refusals.specs.declared.Refusal.TheVariants.{NotAscii, EmptyText, WrongHeader, FieldCount, StepSeconds, NoDrafts, NoRows, Size, ShortBuffer, NoSaneRows}
+use Rattle.refusals.specs.declared.RefusedRow.{RefusedRow}
+use Rattle.table_line.specs.declared.line.Row.{Row as RowSaid}
+use Rattle.table_line.specs.Line.{Line, line_read}
+use Rattle.measured.specs.Judge.{Answer, refused, header_right, rows_in, unless_refused, judge_rows, judge_lines, judged}
 use Rattle.measured.specs.Fill.{row_of, rows_of, Put, PutAt, kept_over, Cleaned, cleaned_to, Outcome, leaves, answered, table_read}
 use Rattle.measured.proofs.Laws.{some_left}
 
 -- a refusal is no table
-pub refused_no : (number row rows : ℕ) → Refused number row ≡ Table rows → ⊥
-refused_no number row rows e = let z : ◌≡◌ {A = ℕ} 0 1 = cc in omega arith
+pub refused_no : (why : RefusedRow) (rows : ℕ) → ◌≡◌ {A = Answer} (Err why) (Ok rows) → ⊥
+refused_no why rows e = let z : ◌≡◌ {A = ℕ} 0 1 = cc in omega arith
 
 -- past a test that did not refuse
-past : (z : Bool) (number row rows : ℕ) (answer : Answer) → cond z (Refused number row) answer ≡ Table rows → (z ≡ false) × (answer ≡ Table rows)
-past true number row rows answer e = absurd (refused_no number row rows e)
-past false number row rows answer e = (refl, e)
+past : (z : Bool) (why : RefusedRow) (rows : ℕ) (answer : Answer) → cond z (Err why) answer ≡ Ok rows → (z ≡ false) × (answer ≡ Ok rows)
+past true why rows answer e = absurd (refused_no why rows e)
+past false why rows answer e = (refl, e)
 
 -- of lines with the rows t after n rows, `rows` in all
 abbrev Facts : ℕ → ℕ → List Row → ℕ → Type 0
 Facts room n t rows = (n + length t ≡ rows) × ((0 < rows) × ((rows ≤ 4096) × (rows ≤ room)))
 
 line_facts : (said : Line) (room : ℕ) (rest : List (List ℕ)) (row n rows : ℕ) → n ≤ 4096 → n ≤ room
-    → ((m : ℕ) → m ≤ 4096 → m ≤ room → judge_rows room rest (suc row) m ≡ Table rows → Facts room m (rows_of rest) rows)
-    → unless_refused said room row n (judge_rows room rest (suc row) (n + rows_in said)) ≡ Table rows → Facts room n (row_of said ++ rows_of rest) rows
-line_facts Blank room rest row n rows h k ih e =
+    → ((m : ℕ) → m ≤ 4096 → m ≤ room → judge_rows room rest (suc row) m ≡ Ok rows → Facts room m (rows_of rest) rows)
+    → unless_refused said room row n (judge_rows room rest (suc row) (n + rows_in said)) ≡ Ok rows → Facts room n (row_of said ++ rows_of rest) rows
+line_facts (Ok None) room rest row n rows h k ih e =
     let z : n + 0 ≡ n = omega arith in
     ih n h k (ap (judge_rows room rest (suc row)) (sym z) ∙ e)
-line_facts (Wrong number) room rest row n rows h k ih e = absurd (refused_no number row rows e)
-line_facts (RowSaid d b x) room rest row n rows h k ih e =
+line_facts (Err refusal) room rest row n rows h k ih e = absurd (refused_no (record { refusal = refusal; row = row }) rows e)
+line_facts (Ok (Some read)) room rest row n rows h k ih e =
     let later = judge_rows room rest (suc row) (n + 1) in
-    let p = past (leb 4096 n) 11 row rows (cond (leb room n) (Refused 16 row) later) e in
-    let q = past (leb room n) 16 row rows later p.1 in
+    let p = past (leb 4096 n) (record { refusal = Size; row = row }) rows (cond (leb room n) (refused ShortBuffer row) later) e in
+    let q = past (leb room n) (record { refusal = ShortBuffer; row = row }) rows later p.1 in
     let f = ih (n + 1) (omega (arith, leb-false 4096 n p.0)) (omega (arith, leb-false room n q.0)) q.1 in
     let a : (n + 1) + length (rows_of rest) ≡ rows = f.0 in
     (omega arith, f.1)
 
-rows_facts : (room : ℕ) (all : List (List ℕ)) (row n rows : ℕ) → n ≤ 4096 → n ≤ room → judge_rows room all row n ≡ Table rows → Facts room n (rows_of all) rows
+rows_facts : (room : ℕ) (all : List (List ℕ)) (row n rows : ℕ) → n ≤ 4096 → n ≤ room → judge_rows room all row n ≡ Ok rows → Facts room n (rows_of all) rows
 unfolding rows_of
 rows_facts room [] row n rows h k e =
-    let p = past (eqb n 0) 10 0 rows (Table n) e in
+    let p = past (eqb n 0) (record { refusal = NoRows; row = 0 }) rows (Ok n) e in
     let z : n ≡ 0 → ⊥ = eqb-false n 0 p.0 in
-    let b : Table n ≡ Table rows = p.1 in
+    let b : Ok n ≡ Ok rows = p.1 in
     let r : n ≡ rows = cc in
     (omega arith, (omega arith, (omega arith, omega arith)))
 rows_facts room (line ∷ rest) row n rows h k e = line_facts (line_read line) room rest row n rows h k (λ m i j f. rows_facts room rest (suc row) m rows i j f) e
 
-lines_facts : (room : ℕ) (text : List (List ℕ)) (rows : ℕ) → judge_lines room text ≡ Table rows → (0 < length text) × Facts room 0 (rows_of (drop 1 text)) rows
+lines_facts : (room : ℕ) (text : List (List ℕ)) (rows : ℕ) → judge_lines room text ≡ Ok rows → (0 < length text) × Facts room 0 (rows_of (drop 1 text)) rows
 unfolding judge_lines
-lines_facts room [] rows e = absurd (refused_no 2 0 rows e)
+lines_facts room [] rows e = absurd (refused_no (record { refusal = EmptyText; row = 0 }) rows e)
 lines_facts room (header ∷ rest) rows e = go (header_right (fields header)) e
   where
-    go : (z : Bool) → cond z (judge_rows room rest 2 0) (Refused 3 1) ≡ Table rows → (0 < suc (length rest)) × Facts room 0 (rows_of rest) rows
+    go : (z : Bool) → cond z (judge_rows room rest 2 0) (refused WrongHeader 1) ≡ Ok rows → (0 < suc (length rest)) × Facts room 0 (rows_of rest) rows
     go true f = (suc-le-suc zero-le, rows_facts room rest 2 0 rows zero-le zero-le f)
-    go false f = absurd (refused_no 3 1 rows f)
+    go false f = absurd (refused_no (record { refusal = WrongHeader; row = 1 }) rows f)
 
 -- a text that the judge takes for a table of so many rows
-pub accepted : (room : ℕ) (text : List ℕ) (rows : ℕ) → judged room text ≡ Table rows → (0 < length text) × Facts room 0 (rows_of (drop 1 (lines text))) rows
+pub accepted : (room : ℕ) (text : List ℕ) (rows : ℕ) → judged room text ≡ Ok rows → (0 < length text) × Facts room 0 (rows_of (drop 1 (lines text))) rows
 unfolding judged
 accepted room text rows e = go (all_ascii text) e
   where
-    go : (z : Bool) → cond z (judge_lines room (lines text)) (Refused 1 0) ≡ Table rows → (0 < length text) × Facts room 0 (rows_of (drop 1 (lines text))) rows
+    go : (z : Bool) → cond z (judge_lines room (lines text)) (refused NotAscii 0) ≡ Ok rows → (0 < length text) × Facts room 0 (rows_of (drop 1 (lines text))) rows
     go true f = let p = lines_facts room (lines text) rows f in (some_text text p.0, p.1)
-    go false f = absurd (refused_no 1 0 rows f)
+    go false f = absurd (refused_no (record { refusal = NotAscii; row = 0 }) rows f)
 
 -- the lines after the header, where stop and next are what `first_line` gives
 pub rows_are : (s : List ℕ) (stop next : ℕ) → stop ≡ length (first_line s) → next ≡ length s - length (after_line s) → 0 < length s
@@ -92,8 +93,8 @@ rows_are s stop next e f h = ap (drop 1) (line_first s stop next e f h)
 -- ---- the rows in the columns that the judge was lent
 
 -- a refusal says nothing of them
-pub put_refused : (number row : ℕ) (answer : Answer) (t : List Row) (d b : List ℕ) (s : List Float) → answer ≡ Refused number row → PutAt answer t d b s
-put_refused number row answer t d b s e rows f = absurd (refused_no number row rows (sym e ∙ f))
+pub put_refused : (why : RefusedRow) (answer : Answer) (t : List Row) (d b : List ℕ) (s : List Float) → answer ≡ Err why → PutAt answer t d b s
+put_refused why answer t d b s e rows f = absurd (refused_no why rows (sym e ∙ f))
 
 front : {A : Type 0} (f : Row → A) (t : List Row) (x y : List A) → y ≡ over f t x → take (length t) y ≡ map f t
 unfolding over
@@ -132,15 +133,15 @@ module _ (text d b : List ℕ) (s : List Float) (low room : ℕ) (f : low ≡ mi
   judged_is : answer ≡ judged (min (length d) (min (length b) (length s))) text
   judged_is = e ∙ ap (λ (n : ℕ). judged n text) room_is
 
-  pub read_refused : (number row : ℕ) → answer ≡ Refused number row
+  pub read_refused : (why : RefusedRow) → answer ≡ Err why
       → ◌≡◌ {A = Outcome} (record { answer = answer; depths = d; batches = b; seconds = s }) (table_read text d b s)
   unfolding table_read
-  read_refused number row r =
+  read_refused why r =
       let t = sorted (rows_read text) in
       ap {B = Outcome} (λ (x : Answer). record { answer = x; depths = d; batches = b; seconds = s }) r
       ∙ ap (λ (x : Answer). leaves (answered x t) t d b s) (sym r ∙ judged_is)
 
-  module _ (rows : ℕ) (r : answer ≡ Table rows) where
+  module _ (rows : ℕ) (r : answer ≡ Ok rows) where
     facts : (0 < length text) × Facts room 0 (rows_read text) rows
     facts = accepted room text rows (sym e ∙ r)
 
@@ -229,10 +230,10 @@ module _ (text d b : List ℕ) (s : List Float) (low room : ℕ) (f : low ≡ mi
             let D : d2 ≡ kept_over (λ r. r.depth) t d = c.depths ∙ ap (λ (x : List Row). kept_over (λ r. r.depth) x d1) u ∙ ap (λ (x : List ℕ). kept_over (λ r. r.depth) t x) w.depths ∙ ap (over (λ r. r.depth) (kept t)) (over_over (λ r. r.depth) t (rows_read text) d n) in
             let B : b2 ≡ kept_over (λ r. r.batch) t b = c.batches ∙ ap (λ (x : List Row). kept_over (λ r. r.batch) x b1) u ∙ ap (λ (x : List ℕ). kept_over (λ r. r.batch) t x) w.batches ∙ ap (over (λ r. r.batch) (kept t)) (over_over (λ r. r.batch) t (rows_read text) b n) in
             let S : s2 ≡ kept_over (λ r. r.seconds) t s = c.seconds ∙ ap (λ (x : List Row). kept_over (λ r. r.seconds) x s1) u ∙ ap (λ (x : List Float). kept_over (λ r. r.seconds) t x) w.seconds ∙ ap (over (λ r. r.seconds) (kept t)) (over_over (λ r. r.seconds) t (rows_read text) s n) in
-            let A : last ≡ Table left = h ∙ some_left left left_some in
+            let A : last ≡ Ok left = h ∙ some_left left left_some in
             ap {B = Outcome} (λ (x : Answer). record { answer = x; depths = d2; batches = b2; seconds = s2 }) A
-            ∙ ap {B = Outcome} (λ (x : List ℕ). record { answer = Table left; depths = x; batches = b2; seconds = s2 }) D
-            ∙ ap {B = Outcome} (λ (x : List ℕ). record { answer = Table left; depths = kept_over (λ r. r.depth) t d; batches = x; seconds = s2 }) B
-            ∙ ap {B = Outcome} (λ (x : List Float). record { answer = Table left; depths = kept_over (λ r. r.depth) t d; batches = kept_over (λ r. r.batch) t b; seconds = x }) S
+            ∙ ap {B = Outcome} (λ (x : List ℕ). record { answer = Ok left; depths = x; batches = b2; seconds = s2 }) D
+            ∙ ap {B = Outcome} (λ (x : List ℕ). record { answer = Ok left; depths = kept_over (λ r. r.depth) t d; batches = x; seconds = s2 }) B
+            ∙ ap {B = Outcome} (λ (x : List Float). record { answer = Ok left; depths = kept_over (λ r. r.depth) t d; batches = kept_over (λ r. r.batch) t b; seconds = x }) S
             ∙ ap (λ (x : Answer). leaves x t d b s) (sym A ∙ h ∙ ap cleaned_to left_is)
             ∙ ap (λ (x : Answer). leaves (answered x t) t d b s) (sym r ∙ judged_is)

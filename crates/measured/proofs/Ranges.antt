@@ -16,10 +16,6 @@ use Rattle.text.specs.Fields.{fields}
 use Rattle.trimming.specs.Trim.{trimmed}
 use Rattle.float.specs.Floats.{f0}
 use Rattle.float.proofs.Classes.{clash}
-use Rattle.numeral.specs.declared.answer.Whole.{Whole}
-use Rattle.numeral.specs.declared.answer.Whole.TheVariants.{Value as WholeValue, Malformed as NoWhole}
-use Rattle.decimals.specs.declared.Decimal.{Decimal}
-use Rattle.decimals.specs.declared.Decimal.TheVariants.{Value, Malformed, TooLong}
 use Rattle.decimals.specs.Decimals.{decimal_of}
 use Rattle.decimals.proofs.Rounding.{round_neg, quotient_finite}
 use Rattle.decimals.proofs.Decimals.{decimal_read}
@@ -28,7 +24,13 @@ use Rattle.cost_rows.specs.Order.{earlier, insert, sorted}
 use Rattle.cost_rows.specs.Prune.{dropped, kept}
 use Rattle.cost_rows.proofs.Ordered.{test}
 use Rattle.cost_rows.specs.Lawful.{largest, in_range, all_in_range}
-use Rattle.table_line.specs.Line.{whole_at, decimal_at, values_read, numbers_read, row_read, line_read}
+use Rattle.std.proofs.Common.{Some, None, Ok, Err}
+use Rattle.refusals.specs.declared.Refusal.{Refusal}
+use Rattle.refusals.specs.declared.Refusal.TheVariants.{NotAscii, EmptyText, WrongHeader, FieldCount, StepSeconds, NoDrafts, NoRows, Size, ShortBuffer, NoSaneRows}
+use Rattle.refusals.specs.declared.RefusedRow.{RefusedRow}
+use Rattle.numeral.specs.Spelling.{Whole}
+use Rattle.decimals.specs.Decimals.{Decimal}
+use Rattle.table_line.specs.Line.{said, whole_at, decimal_at, values_read, numbers_read, row_read, line_read}
 use Rattle.measured.specs.Fill.{row_of, rows_of}
 
 -- ---- a decimal that is above zero
@@ -64,7 +66,7 @@ by_sign true n k x h e p =
     (not_above (round binary64 false n (10 ^ k)) (grid binary64 n (10 ^ k)) (2 ^ low binary64) (round_val binary64 n (10 ^ k) (round_under binary64 n (10 ^ k) (quotient_finite false n k h)))
     (ap (lt f0) (round_neg binary64 n (10 ^ k) ∙ e) ∙ p))
 
-pub decimal_range : (s : List ℕ) (x : Float) → decimal_of s ≡ Value x → lt f0 x ≡ true → in_range x ≡ true
+pub decimal_range : (s : List ℕ) (x : Float) → decimal_of s ≡ Ok x → lt f0 x ≡ true → in_range x ≡ true
 unfolding in_range
 decimal_range s x e p =
     let r = decimal_read s x e in
@@ -72,22 +74,21 @@ decimal_range s x e p =
 
 -- ---- the rows of the lines
 
-values_range : (batch tokens : ℕ) (x : Float) (s : List ℕ) → decimal_of s ≡ Value x → all_in_range (row_of (values_read batch tokens x)) ≡ true
+values_range : (batch tokens : ℕ) (x : Float) (s : List ℕ) → decimal_of s ≡ Ok x → all_in_range (row_of (said (values_read batch tokens x))) ≡ true
 unfolding values_read all_in_range
 values_range batch tokens x s e =
     test (lt f0 x)
     (λ p. test (eqb tokens 0) (λ q. rw (p, q)) (λ q. rw (p, q, decimal_range s x e p)))
     (λ p. rw p)
 
-numbers_range : (w v : Whole) (s : List ℕ) (y : Decimal) → decimal_of s ≡ y → all_in_range (row_of (numbers_read w v y)) ≡ true
+numbers_range : (w v : Whole) (s : List ℕ) (y : Decimal) → decimal_of s ≡ y → all_in_range (row_of (said (numbers_read w v y))) ≡ true
 unfolding numbers_read all_in_range
-numbers_range NoWhole v s y e = refl
-numbers_range (WholeValue b) NoWhole s y e = refl
-numbers_range (WholeValue b) (WholeValue t) s Malformed e = refl
-numbers_range (WholeValue b) (WholeValue t) s TooLong e = refl
-numbers_range (WholeValue b) (WholeValue t) s (Value x) e = values_range b t x s e
+numbers_range (Err refusal) v s y e = refl
+numbers_range (Ok b) (Err refusal) s y e = refl
+numbers_range (Ok b) (Ok t) s (Err refusal) e = refl
+numbers_range (Ok b) (Ok t) s (Ok x) e = values_range b t x s e
 
-row_range : (row : List (List ℕ)) → all_in_range (row_of (row_read row)) ≡ true
+row_range : (row : List (List ℕ)) → all_in_range (row_of (said (row_read row))) ≡ true
 unfolding row_read all_in_range
 row_range row =
     test (eqb (length row) 3)

@@ -1,21 +1,19 @@
 -- What reading a cost table leaves in the three columns.
-use Rattle.std.specs.Prelude.{ℕ, min, ◌≡◌, cond, List, [], ◌∷◌, ◌++◌, map, eqb, Float, length, take, drop}
+use Rattle.std.specs.Prelude.{ℕ, min, ◌≡◌, cond, List, [], ◌∷◌, ◌++◌, map, eqb, Float, length, take, drop, Some, None, Ok, Err}
 use Rattle.text.specs.Lines.{lines}
 use Rattle.cost_rows.specs.Table.{Row, over}
 use Rattle.cost_rows.specs.Order.{sorted}
 use Rattle.cost_rows.specs.Prune.{kept}
-use Rattle.table_line.specs.declared.line.Line.{Line}
-use Rattle.table_line.specs.declared.line.Line.TheVariants.{Blank, Row as RowSaid, Refused as Wrong}
-use Rattle.measured.specs.declared.Answer.{Answer}
-use Rattle.measured.specs.declared.Answer.TheVariants.{Table, Refused}
-use Rattle.table_line.specs.Line.{line_read}
-use Rattle.measured.specs.Judge.{judged}
+use Rattle.refusals.specs.declared.Refusal.TheVariants.{NoSaneRows}
+use Rattle.refusals.specs.declared.RefusedRow.{RefusedRow}
+use Rattle.table_line.specs.Line.{Line, line_read}
+use Rattle.measured.specs.Judge.{Answer, refused, judged}
 
 -- the row that a line is, if it is one
 abbrev pub row_of : Line → List Row
-row_of Blank = []
-row_of (RowSaid depth batch time) = record { depth = depth; batch = batch; seconds = time } ∷ []
-row_of (Wrong number) = []
+row_of (Ok None) = []
+row_of (Ok (Some read)) = record { depth = read.depth; batch = read.batch; seconds = read.seconds } ∷ []
+row_of (Err refusal) = []
 
 -- the rows of the lines, in their order
 unfoldable pub rows_of : List (List ℕ) → List Row
@@ -31,7 +29,7 @@ pub record Put (t : List Row) (d b : List ℕ) (s : List Float) : Type 0 where
 
 -- the rows stand in the columns where the answer is a table
 abbrev pub PutAt : Answer → List Row → List ℕ → List ℕ → List Float → Type 0
-PutAt answer t d b s = (rows : ℕ) → answer ≡ Table rows → Put t d b s
+PutAt answer t d b s = (rows : ℕ) → answer ≡ Ok rows → Put t d b s
 
 -- a column in which the rows t, in order, were written over the front, and then the kept ones over these
 abbrev pub kept_over : {A : Type 0} → (Row → A) → List Row → List A → List A
@@ -42,9 +40,9 @@ pub record Cleaned (t : List Row) (d b : List ℕ) (s : List Float) (d' b' : Lis
   pub batches : b' ≡ kept_over (λ r. r.batch) t b
   pub seconds : s' ≡ kept_over (λ r. r.seconds) t s
 
--- 20: no rows are left after rows are dropped
+-- refused where no rows are left after rows are dropped
 abbrev pub cleaned_to : ℕ → Answer
-cleaned_to left = cond (eqb left 0) (Refused 20 0) (Table left)
+cleaned_to left = cond (eqb left 0) (refused NoSaneRows 0) (Ok left)
 
 -- what is left by a call: its answer and the three columns
 pub record Outcome : Type 0 where
@@ -55,10 +53,10 @@ pub record Outcome : Type 0 where
 
 -- a refusal leaves the columns as they were; else the rows t, in order, are cleaned in place
 abbrev pub leaves : Answer → List Row → List ℕ → List ℕ → List Float → Outcome
-leaves (Refused number row) t d b s = record { answer = Refused number row; depths = d; batches = b; seconds = s }
-leaves (Table rows) t d b s =
+leaves (Err why) t d b s = record { answer = Err why; depths = d; batches = b; seconds = s }
+leaves (Ok rows) t d b s =
     record {
-      answer = Table rows;
+      answer = Ok rows;
       depths = kept_over (λ r. r.depth) t d;
       batches = kept_over (λ r. r.batch) t b;
       seconds = kept_over (λ r. r.seconds) t s;
@@ -66,8 +64,8 @@ leaves (Table rows) t d b s =
 
 -- where the judge refuses, its refusal
 abbrev pub answered : Answer → List Row → Answer
-answered (Refused number row) t = Refused number row
-answered (Table rows) t = cleaned_to (length (kept t))
+answered (Err why) t = Err why
+answered (Ok rows) t = cleaned_to (length (kept t))
 
 unfoldable pub table_read : List ℕ → List ℕ → List ℕ → List Float → Outcome
 unfolding rows_of judged

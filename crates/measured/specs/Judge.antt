@@ -1,14 +1,21 @@
 -- What a cost table's text is refused for, over the list of its lines.
-use Rattle.std.specs.Prelude.{ℕ, suc, ◌+◌, Bool, ◌&&◌, cond, List, [], ◌∷◌, leb, eqb, length, get_or}
+use Rattle.std.specs.Prelude.{ℕ, suc, ◌+◌, Bool, ◌&&◌, cond, List, [], ◌∷◌, leb, eqb, length, get_or, Some, None, Result, Ok, Err}
 use Rattle.text.specs.Lines.{lines}
 use Rattle.text.specs.Fields.{fields, same_text}
 use Rattle.trimming.specs.Trim.{trimmed}
 use Rattle.blocks.specs.Blocks.{all_ascii}
-use Rattle.table_line.specs.declared.line.Line.{Line}
-use Rattle.table_line.specs.declared.line.Line.TheVariants.{Blank, Row, Refused as Wrong}
-use Rattle.measured.specs.declared.Answer.{Answer}
-use Rattle.measured.specs.declared.Answer.TheVariants.{Table, Refused}
-use Rattle.table_line.specs.Line.{line_read}
+use Rattle.refusals.specs.declared.Refusal.{Refusal}
+use Rattle.refusals.specs.declared.Refusal.TheVariants.{NotAscii, EmptyText, WrongHeader, NoRows, Size, ShortBuffer}
+use Rattle.refusals.specs.declared.RefusedRow.{RefusedRow}
+use Rattle.refusals.specs.Refusals.{number_of}
+use Rattle.table_line.specs.Line.{Line, line_read}
+
+-- what a text says: how many rows it has, or the refusal with the row of the line at fault
+abbrev pub Answer : Type 0
+Answer = Result ℕ RefusedRow
+
+abbrev pub refused : Refusal → ℕ → Answer
+refused refusal row = Err (record { refusal = refusal; row = row })
 
 -- the rows that a text may have
 abbrev pub most_rows : ℕ
@@ -37,37 +44,37 @@ header_right names = eqb (length names) 3 && (named names 0 batch_name && (named
 
 -- how many rows a line is
 abbrev pub rows_in : Line → ℕ
-rows_in Blank = 0
-rows_in (Row depth batch time) = 1
-rows_in (Wrong number) = 0
+rows_in (Ok None) = 0
+rows_in (Ok (Some read)) = 1
+rows_in (Err refusal) = 0
 
--- the answer of the lines after this one, unless a refusal goes before it: n rows stand before this line, whose number is `row`.
--- 11: too many rows; 16: the columns have room for `room` rows
+-- the answer of the lines after this one, unless a refusal goes before it: n rows stand before this line, whose number is `row`, and the
+-- columns have room for `room` rows
 abbrev pub unless_refused : Line → ℕ → ℕ → ℕ → Answer → Answer
-unless_refused Blank room row n answer = answer
-unless_refused (Wrong number) room row n answer = Refused number row
-unless_refused (Row depth batch time) room row n answer = cond (leb most_rows n) (Refused 11 row) (cond (leb room n) (Refused 16 row) answer)
+unless_refused (Ok None) room row n answer = answer
+unless_refused (Ok (Some read)) room row n answer = cond (leb most_rows n) (refused Size row) (cond (leb room n) (refused ShortBuffer row) answer)
+unless_refused (Err refusal) room row n answer = refused refusal row
 
--- the lines from the one with number `row` on, with n rows before it; 10: there are none
+-- the lines from the one with number `row` on, with n rows before it; of none there is no table
 abbrev pub judge_rows : ℕ → List (List ℕ) → ℕ → ℕ → Answer
-judge_rows room [] row n = cond (eqb n 0) (Refused 10 0) (Table n)
+judge_rows room [] row n = cond (eqb n 0) (refused NoRows 0) (Ok n)
 judge_rows room (line ∷ rest) row n = unless_refused (line_read line) room row n (judge_rows room rest (suc row) (n + rows_in (line_read line)))
 
 -- the header, which is line 1, then the others
 unfoldable pub judge_lines : ℕ → List (List ℕ) → Answer
 unfolding header_right
-judge_lines room [] = Refused 2 0
-judge_lines room (header ∷ rest) = cond (header_right (fields header)) (judge_rows room rest 2 0) (Refused 3 1)
+judge_lines room [] = refused EmptyText 0
+judge_lines room (header ∷ rest) = cond (header_right (fields header)) (judge_rows room rest 2 0) (refused WrongHeader 1)
 
 unfoldable pub judged : ℕ → List ℕ → Answer
 unfolding judge_lines
-judged room text = cond (all_ascii text) (judge_lines room (lines text)) (Refused 1 0)
+judged room text = cond (all_ascii text) (judge_lines room (lines text)) (refused NotAscii 0)
 
 -- ---- the refusal number and the row of each answer; 0 where there is a table
 abbrev pub answer_refusal : Answer → ℕ
-answer_refusal (Table rows) = 0
-answer_refusal (Refused number row) = number
+answer_refusal (Ok rows) = 0
+answer_refusal (Err why) = number_of why.refusal
 
 abbrev pub answer_row : Answer → ℕ
-answer_row (Table rows) = 0
-answer_row (Refused number row) = row
+answer_row (Ok rows) = 0
+answer_row (Err why) = why.row

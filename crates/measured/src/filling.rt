@@ -5,9 +5,9 @@ ghost use Rattle.cost_rows.specs.Order.{sorted};
 ghost use Rattle.cost_rows.specs.Prune.{kept};
 ghost use Rattle.measured.specs.Fill.{Cleaned, cleaned_to};
 
-use crate::Answer;
 use cost_order::inner as order;
 use cost_rows::inner;
+use refusals::{Refusal, RefusedRow};
 
 // Three columns copied over the front of others.
 pub fn put(
@@ -23,9 +23,9 @@ pub fn put(
     ensures batches { batches.new ≡ from_batches.now ++ drop (length from_batches.now) batches.old }
     ensures seconds { seconds.new ≡ from_seconds.now ++ drop (length from_seconds.now) seconds.old }
 {
-    order::copy_numbers(from_depths, depths);
-    order::copy_numbers(from_batches, batches);
-    order::copy_seconds(from_seconds, seconds);
+    order::copy_front(from_depths, depths);
+    order::copy_front(from_batches, batches);
+    order::copy_front(from_seconds, seconds);
 }
 
 // Puts the rows in order and drops those that are above the next one, and answers how many are left.
@@ -38,12 +38,15 @@ pub fn clean(depths: &mut [u32], batches: &mut [u32], seconds: &mut [f64], rows:
 }
 
 // The answer where so many rows are left.
-pub fn cleaned(left: usize) -> Answer
+pub fn cleaned(left: usize) -> Result<u32, RefusedRow>
     requires { left ≤ 4096 }
     ensures { result ≡ cleaned_to left }
 {
     if left == 0 {
-        return Answer::Refused { number: 20, row: 0 };
+        return Err(RefusedRow {
+            refusal: Refusal::NoSaneRows,
+            row: 0,
+        });
     }
-    Answer::Table { rows: left as u32 }
+    Ok(left as u32)
 }

@@ -6,10 +6,10 @@ ghost use Rattle.trimming.specs.Trim.{trimmed};
 ghost use Rattle.measured.specs.Judge.{header_right, judge_rows, judge_lines, judged};
 ghost use Rattle.measured.specs.Fill.{rows_of, PutAt};
 
-use crate::{Answer, MOST_ROWS};
+use crate::MOST_ROWS;
 use cost_rows::inner;
+use refusals::{Refusal, RefusedRow};
 use table_line::line;
-use table_line::line::Line;
 
 // Whether the column at a place has this name, once trimmed.
 fn is_named(header: &[u8], place: usize, name: &[u8]) -> bool
@@ -19,19 +19,14 @@ fn is_named(header: &[u8], place: usize, name: &[u8]) -> bool
 }
 
 // Whether the header has the three columns of a cost table.
+#[tactic(auto, unfolding(crate::specs::Judge::header_right))]
 fn is_header(header: &[u8]) -> bool
     ensures { result ≡ header_right (fields header.now) }
 {
-    if text::field_count(header) != 3 {
-        return false;
-    }
-    if !is_named(header, 0, b"batch_size") {
-        return false;
-    }
-    if !is_named(header, 1, b"num_draft_tokens") {
-        return false;
-    }
-    is_named(header, 2, b"step_seconds")
+    text::field_count(header) == 3
+        && is_named(header, 0, b"batch_size")
+        && is_named(header, 1, b"num_draft_tokens")
+        && is_named(header, 2, b"step_seconds")
 }
 
 // The first refusal of the lines after the header, or how many rows they hold, which then stand at the front of the columns; there is room for `room` rows.
@@ -41,7 +36,7 @@ fn judge_rows(
     depths: &mut [u32],
     batches: &mut [u32],
     seconds: &mut [f64],
-) -> Answer
+) -> Result<u32, RefusedRow>
     requires { (4096 ≤ length depths.old) × (4096 ≤ length batches.old) × (4096 ≤ length seconds.old) }
     ensures answer { result ≡ judge_rows room (lines text.now) 2 0 }
     ensures rows { PutAt result (rows_of (lines text.now)) depths.new batches.new seconds.new }
@@ -49,6 +44,7 @@ fn judge_rows(
     let mut rest = text;
     let mut next_row = 2u64;
     let mut rows = 0usize;
+    // No index is counted: each turn takes the rest behind a line.
     while 0 < rest.len() {
         let first = text::inner::short_line(rest);
         let stop = first.stop;
@@ -58,26 +54,43 @@ fn judge_rows(
         next_row += 1;
         rest = &rest[next..];
         match said {
-            Line::Blank => {}
-            Line::Refused(number) => {
-                return Answer::Refused { number, row };
+            Ok(None) => {}
+            Err(refusal) => {
+                return Err(RefusedRow { refusal, row });
             }
-            Line::Row { depth, batch, time } => {
+            Ok(Some(read)) => {
                 if MOST_ROWS <= rows {
-                    return Answer::Refused { number: 11, row };
+                    return Err(RefusedRow {
+                        refusal: Refusal::Size,
+                        row,
+                    });
                 }
                 if room <= rows {
-                    return Answer::Refused { number: 16, row };
+                    return Err(RefusedRow {
+                        refusal: Refusal::ShortBuffer,
+                        row,
+                    });
                 }
-                inner::put_row(depths, batches, seconds, rows, depth, batch, time);
+                inner::put_row(
+                    depths,
+                    batches,
+                    seconds,
+                    rows,
+                    read.depth,
+                    read.batch,
+                    read.seconds,
+                );
                 rows += 1;
             }
         }
     }
     if rows == 0 {
-        return Answer::Refused { number: 10, row: 0 };
+        return Err(RefusedRow {
+            refusal: Refusal::NoRows,
+            row: 0,
+        });
     }
-    Answer::Table { rows: rows as u32 }
+    Ok(rows as u32)
 }
 
 // The first refusal of the header and the lines after it, or how many rows they hold, which then stand at the front of the columns.
@@ -88,13 +101,16 @@ fn judge_lines(
     depths: &mut [u32],
     batches: &mut [u32],
     seconds: &mut [f64],
-) -> Answer
+) -> Result<u32, RefusedRow>
     requires { (4096 ≤ length depths.old) × (4096 ≤ length batches.old) × (4096 ≤ length seconds.old) }
     ensures answer { result ≡ judge_lines room (header.now ∷ lines rows.now) }
     ensures rows { PutAt result (rows_of (lines rows.now)) depths.new batches.new seconds.new }
 {
     if !is_header(header) {
-        return Answer::Refused { number: 3, row: 1 };
+        return Err(RefusedRow {
+            refusal: Refusal::WrongHeader,
+            row: 1,
+        });
     }
     judge_rows(rows, room, depths, batches, seconds)
 }
@@ -106,16 +122,22 @@ pub fn judge(
     depths: &mut [u32],
     batches: &mut [u32],
     seconds: &mut [f64],
-) -> Answer
+) -> Result<u32, RefusedRow>
     requires { (4096 ≤ length depths.old) × (4096 ≤ length batches.old) × (4096 ≤ length seconds.old) }
     ensures answer { result ≡ judged room text.now }
     ensures rows { PutAt result (rows_of (drop 1 (lines text.now))) depths.new batches.new seconds.new }
 {
     if !blocks::is_ascii(text) {
-        return Answer::Refused { number: 1, row: 0 };
+        return Err(RefusedRow {
+            refusal: Refusal::NotAscii,
+            row: 0,
+        });
     }
     if text.len() == 0 {
-        return Answer::Refused { number: 2, row: 0 };
+        return Err(RefusedRow {
+            refusal: Refusal::EmptyText,
+            row: 0,
+        });
     }
     let first = text::first_line(text);
     let stop = first.stop;

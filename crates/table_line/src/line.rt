@@ -6,79 +6,74 @@ ghost use Rattle.numeral.specs.Spelling.{whole_of};
 ghost use Rattle.decimals.specs.Decimals.{decimal_of};
 ghost use Rattle.table_line.specs.Line.{values_read, numbers_read, row_read, line_read};
 
-use decimals::Decimal;
-use numeral::answer::Whole;
+use refusals::Refusal;
 
-// Nothing, a row, or the number of what is wrong with it.
+// A row: a step of so many drafts in a batch took so many seconds.
 #[derive(Clone, Copy)]
-pub enum Line {
-    Blank,
-    Row { depth: u32, batch: u32, time: f64 },
-    Refused(u64),
+pub struct Row {
+    pub depth: u32,
+    pub batch: u32,
+    pub seconds: f64,
 }
 
 // The row of three numbers: the seconds are above zero, and a step has at least one token.
-fn row_of(batch: u32, tokens: u32, time: f64) -> Line
-    ensures { result ≡ values_read batch tokens time }
+#[tactic(auto, unfolding(crate::specs::Line::values_read))]
+fn row_of(batch: u32, tokens: u32, seconds: f64) -> Result<Row, Refusal>
+    ensures { result ≡ values_read batch tokens seconds }
 {
-    if time > 0.0 {
+    if seconds > 0.0 {
         if tokens == 0 {
-            return Line::Refused(9);
+            return Err(Refusal::NoDrafts);
         }
-        return Line::Row {
+        return Ok(Row {
             depth: tokens - 1,
             batch,
-            time,
-        };
+            seconds,
+        });
     }
-    Line::Refused(8)
+    Err(Refusal::StepSeconds)
 }
 
 // What a row of three fields says, each once trimmed.
-fn fields_read(batch: &[u8], tokens: &[u8], time: &[u8]) -> Line
-    ensures { result ≡ numbers_read (whole_of (trimmed batch.now)) (whole_of (trimmed tokens.now)) (decimal_of (trimmed time.now)) }
+#[tactic(auto, unfolding(crate::specs::Line::numbers_read))]
+fn fields_read(batch: &[u8], tokens: &[u8], seconds: &[u8]) -> Result<Row, Refusal>
+    ensures { result ≡ numbers_read (whole_of (trimmed batch.now)) (whole_of (trimmed tokens.now)) (decimal_of (trimmed seconds.now)) }
 {
-    let Whole::Value(batch_size) = numeral::whole(trimming::trim(batch)) else {
-        return Line::Refused(5);
-    };
-    let Whole::Value(draft_tokens) = numeral::whole(trimming::trim(tokens)) else {
-        return Line::Refused(5);
-    };
-    match numeral::decimal(trimming::trim(time)) {
-        Decimal::Malformed => Line::Refused(6),
-        Decimal::TooLong => Line::Refused(7),
-        Decimal::Value(seconds) => row_of(batch_size, draft_tokens, seconds),
-    }
+    let batch = numeral::whole(trimming::trim(batch))?;
+    let tokens = numeral::whole(trimming::trim(tokens))?;
+    let seconds = numeral::decimal(trimming::trim(seconds))?;
+    row_of(batch, tokens, seconds)
 }
 
 // What a line that is not blank says: its fields stand before, between and behind two commas.
-fn read_row(line: &[u8]) -> Line
+fn read_row(line: &[u8]) -> Result<Row, Refusal>
     ensures { result ≡ row_read (fields line.now) }
 {
     let first = blocks::near::find(line, b',');
     if line.len() <= first {
-        return Line::Refused(4);
+        return Err(Refusal::FieldCount);
     }
     let from = first + 1;
     let rest = &line[from..];
     let second = blocks::near::find(rest, b',');
     if rest.len() <= second {
-        return Line::Refused(4);
+        return Err(Refusal::FieldCount);
     }
     let behind = second + 1;
     let last = &rest[behind..];
     if blocks::near::find(last, b',') < last.len() {
-        return Line::Refused(4);
+        return Err(Refusal::FieldCount);
     }
     fields_read(&line[..first], &rest[..second], last)
 }
 
 // What a line says: nothing where it is empty once trimmed.
-pub fn read_line(line: &[u8]) -> Line
+#[tactic(auto, unfolding(crate::specs::Line::line_read))]
+pub fn read_line(line: &[u8]) -> Result<Option<Row>, Refusal>
     ensures { result ≡ line_read line.now }
 {
     if trimming::trim(line).len() == 0 {
-        return Line::Blank;
+        return Ok(None);
     }
-    read_row(line)
+    Ok(Some(read_row(line)?))
 }

@@ -4,7 +4,7 @@ use mathlib.Core.Path.{◌≡◌}
 use Prim.Native.Nat.{ℕ}
 use lib.Ieee.{Float}
 use Rattle.measured.specs.Fill.{Outcome, table_read}
-use Rattle.measured.specs.declared.Answer.{Answer}
+use Rattle.measured.specs.Judge.{Answer}
 use Rattle.unique.specs.Only.{OnlyFour}
 use Rattle.unique.proofs.Law.{four_once}
 

@@ -15,13 +15,13 @@ use Rattle.measured.proofs.judging.judge.Goals as goal
 
 pub returns-then-not-is_ascii-clause-rows : goal.returns-then-not-is_ascii-clause-rows
 returns-then-not-is_ascii-clause-rows c = let a = c.args in
-    let t = c.is_ascii in put_refused _ _ _ (rows_of (drop 1 (lines a.text.now))) a.depths.now a.batches.now a.seconds.now refl
+    let t = c.is_ascii in put_refused _ _ (rows_of (drop 1 (lines a.text.now))) a.depths.now a.batches.now a.seconds.now refl
 
 pub returns-then-text-eq0-clause-answer : goal.returns-then-text-eq0-clause-answer
 returns-then-text-eq0-clause-answer c = let a = c.args in sym (text_empty a.room a.text.now c.if-text-eq0.true)
 
 pub returns-then-text-eq0-clause-rows : goal.returns-then-text-eq0-clause-rows
-returns-then-text-eq0-clause-rows c = let a = c.args in put_refused _ _ _ (rows_of (drop 1 (lines a.text.now))) a.depths.now a.batches.now a.seconds.now refl
+returns-then-text-eq0-clause-rows c = let a = c.args in put_refused _ _ (rows_of (drop 1 (lines a.text.now))) a.depths.now a.batches.now a.seconds.now refl
 
 pub slice_bounds-judge_lines-end : goal.slice_bounds-judge_lines-end
 slice_bounds-judge_lines-end c =

@@ -8,7 +8,7 @@ use Rattle.measured.proofs.judging.judge_lines.Goals as goal
 
 pub returns-then-not-is_header-clause-rows : goal.returns-then-not-is_header-clause-rows
 returns-then-not-is_header-clause-rows c = let a = c.args in
-    let h = c.is_header in put_refused _ _ _ (rows_of (lines a.rows.now)) a.depths.now a.batches.now a.seconds.now refl
+    let h = c.is_header in put_refused _ _ (rows_of (lines a.rows.now)) a.depths.now a.batches.now a.seconds.now refl
 
 pub returns-clause-rows : goal.returns-clause-rows
 returns-clause-rows c = let a = c.args in

@@ -1,4 +1,4 @@
--- `measured::line::read_row` meets its contract: each way out is a law of the row's fields. Assumes nothing.
+-- `table_line::read_row` meets its contract: each way out is a law of the row's fields. Assumes nothing.
 use mathlib.Core.Path.{◌≡◌, sym, ◌∙◌}
 use mathlib.Core.List.{List, [], ◌∷◌}
 use Prim.Native.Nat.{ℕ, ◌+◌, ◌-◌, ◌≤◌, ◌<◌}
