@@ -9,13 +9,13 @@ use lib.Dec.{leb}
 use lib.ListN.{length}
 use lib.Ieee.{Float}
 use Rattle.std.specs.Prelude.{Ok, Err}
-use Rattle.float.specs.Floats.{plus, times, f0, is_finite, is_clear}
+use Rattle.float.specs.Floats.{plus, times, is_finite, is_clear}
 use Rattle.refusals.specs.declared.Refusal.TheVariants.{Size, Input}
-use Rattle.refusals.specs.Refusals.{Judgement, passed_if, and_then}
+use Rattle.refusals.specs.Refusals.{passed_if}
 use Rattle.refusals.proofs.First.{refused_is_no_pass, both_pass}
 use Rattle.switch_settings.specs.Switch.{switch_judged}
 use Rattle.switch_settings.specs.declared.SwitchConstraints.{SwitchConstraints}
-use Rattle.switching.specs.Deciding.{milli, is_due, counted, at_width, walked, candidates_of, next, decided, most_width, most_rounds, most_depths, record_judged as judged_record, all_prices, decide_judged, at_first, first_decision}
+use Rattle.switching.specs.Deciding.{milli, is_due, counted, at_width, walked, candidates_of, next, decided, most_width, most_rounds, most_depths, record_judged as judged_record, decide_judged, at_first, first_decision}
 use Rattle.switching.specs.declared.Switching.{Switching}
 use Rattle.switching.specs.declared.Decided.{Decided}
 

@@ -1,5 +1,4 @@
 -- `inner::candidates_of` meets its contract: what is found and what is left to find are the candidates. Assumes nothing.
-use Prim.Native.Nat.{◌-◌}
 use native.Mathlib.Omega.{arith}
 use Rattle.switching.proofs.Slots.{slots_turn, slots_end}
 use Rattle.switching.proofs.inner.candidates_of.Goals as goal
