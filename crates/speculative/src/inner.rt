@@ -86,8 +86,7 @@ pub fn loaded_at(drafter: DrafterCost, loaded: &[f64], batch: usize) -> f64
                 0.0
             }
         }
-        DrafterCost::Fraction { .. } => 0.0,
-        DrafterCost::BlockParallel { .. } => 0.0,
+        DrafterCost::Fraction { .. } | DrafterCost::BlockParallel { .. } => 0.0,
     }
 }
 
@@ -96,8 +95,7 @@ pub fn pass_seconds(drafter: DrafterCost, batch: u32, rates: Rates, loaded: f64)
     ensures { result ≡ pass_seconds drafter batch rates loaded }
 {
     match drafter {
-        DrafterCost::Fraction { .. } => 0.0,
-        DrafterCost::BlockParallel { .. } => 0.0,
+        DrafterCost::Fraction { .. } | DrafterCost::BlockParallel { .. } => 0.0,
         DrafterCost::Autoregressive { .. } => {
             if batch == 0 {
                 0.0
@@ -120,12 +118,10 @@ fn all_passes(
     ensures { result ≡ passes_from drafter widths.now rates loaded.now deepest }
 {
     let mut sum = 0.0;
-    let mut k = 0u32;
-    while k < deepest {
-        k += 1;
-        let n = still_drafting(widths, k);
+    for k in 0..deepest {
+        let n = still_drafting(widths, k + 1);
         let experts = loaded_at(drafter, loaded, n as usize);
-        sum = sum + pass_seconds(drafter, n, rates, experts);
+        sum += pass_seconds(drafter, n, rates, experts);
     }
     sum
 }
