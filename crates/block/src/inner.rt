@@ -6,7 +6,7 @@ ghost use Rattle.slots.specs.Slots.{Fits};
 ghost use Rattle.block.specs.Block.{block_gate};
 
 use crate::weighing::verify_by;
-use slots::inner::{clear, start_widths};
+use slots::inner::start_widths;
 use speculative::drafter::{DrafterCost, Rates};
 use speculative::inner::{loaded_at, seconds};
 use verify_prices::PriceMode;
@@ -29,7 +29,7 @@ pub fn gated_block_verify(
     requires widths_len { length widths.old ≡ length lengths.now }
     ensures { record { widths = widths.new; weighed = result } ≡ block_gate (rule_of mode curve.now (length lengths.now)) chains.now lengths.now curve.now depth kind rates loaded.now }
 {
-    clear(widths);
+    widths.fill(0);
     if depth == 0 {
         return 0;
     }

@@ -10,7 +10,7 @@ ghost use Rattle.slots.specs.Gate.{Chosen};
 ghost use Rattle.slots.specs.Slots.{Fits, starts, stacks, up_to, survival};
 ghost use Rattle.block.specs.Block.{block_from, block_widths};
 
-use slots::inner::{Slot, min_u32, survival_at};
+use slots::inner::{Slot, survival_at};
 use verdict::inner::{Tally, Verdict, starting};
 use verify_prices::PriceMode;
 use verify_prices::bridging::{bridged_cost, fill_spans};
@@ -22,7 +22,7 @@ fn slot_at(chains: &[f64], lengths: &[u32], depth: u32, k: usize, w: u32) -> Slo
     requires k_in_bounds { k < length lengths.now }
     ensures { candidate result.more result.rank ≡ head_of (drop w (up_to (min depth (get_or lengths.now k 0)) (drop (k * 64) chains.now))) }
 {
-    if w < min_u32(depth, lengths[k]) {
+    if w < depth.min(lengths[k]) {
         Slot {
             more: true,
             rank: float::bits(survival_at(chains, k, w)),
@@ -42,14 +42,11 @@ fn fill(chains: &[f64], lengths: &[u32], depth: u32, rank: &mut [u64], seq: &mut
     ensures { (result ≤ length lengths.now) × Stands rank.new seq.new result (frontier (stacks up_to (starts depth lengths.now) chains.now)) }
 {
     let mut m: usize = 0;
-    let mut k: usize = 0;
-    while k < lengths.len() {
-        let j = k;
-        k += 1;
-        let slot = slot_at(chains, lengths, depth, j, 0);
+    for k in 0..lengths.len() {
+        let slot = slot_at(chains, lengths, depth, k, 0);
         if slot.more {
             rank[m] = slot.rank;
-            seq[m] = j as u64;
+            seq[m] = k as u64;
             m += 1;
         }
     }
@@ -124,6 +121,7 @@ fn weigh_all(
     let mut live = first;
     let mut weighed: usize = 0;
     let mut tally = start;
+    // no index is counted: each turn weighs the heap's top, until none is left or one ends the gate
     while 0 < live {
         let k = seq[0] as usize;
         weighed += 1;
@@ -174,31 +172,8 @@ fn verify_within(
     )
 }
 
-// The gate for at most 64 sequences.
-fn verify_few(
-    chains: &[f64],
-    lengths: &[u32],
-    depth: u32,
-    mode: PriceMode,
-    curve: &[f64],
-    spans: &[u8],
-    draft: f64,
-    widths: &mut [u32],
-) -> usize
-    requires fits { Fits chains.now lengths.now (length lengths.now) × (length lengths.now ≤ 64) }
-    requires priced { Priced mode curve.now spans.now }
-    requires widths_value { widths.old ≡ replicate (length lengths.now) 0 }
-    ensures { record { widths = widths.new; weighed = result } ≡ block_widths (price_by mode curve.now (length lengths.now)) chains.now depth draft lengths.now }
-{
-    let mut rank = [0u64; 64];
-    let mut seq = [0u64; 64];
-    verify_within(
-        chains, lengths, depth, mode, curve, spans, draft, &mut rank, &mut seq, widths,
-    )
-}
-
-// The gate for at most 1,024.
-fn verify_many(
+// The gate for at most N sequences.
+fn verify_roomy<const N: usize>(
     chains: &[f64],
     lengths: &[u32],
     depth: u32,
@@ -209,12 +184,13 @@ fn verify_many(
     widths: &mut [u32],
 ) -> usize
     requires fits { Fits chains.now lengths.now (length lengths.now) }
+    requires room { (length lengths.now ≤ N) × (N ≤ 1024) }
     requires priced { Priced mode curve.now spans.now }
     requires widths_value { widths.old ≡ replicate (length lengths.now) 0 }
     ensures { record { widths = widths.new; weighed = result } ≡ block_widths (price_by mode curve.now (length lengths.now)) chains.now depth draft lengths.now }
 {
-    let mut rank = [0u64; 1024];
-    let mut seq = [0u64; 1024];
+    let mut rank = [0u64; N];
+    let mut seq = [0u64; N];
     verify_within(
         chains, lengths, depth, mode, curve, spans, draft, &mut rank, &mut seq, widths,
     )
@@ -237,9 +213,9 @@ fn verify_block(
     ensures { record { widths = widths.new; weighed = result } ≡ block_widths (price_by mode curve.now (length lengths.now)) chains.now depth draft lengths.now }
 {
     if lengths.len() <= 64 {
-        verify_few(chains, lengths, depth, mode, curve, spans, draft, widths)
+        verify_roomy::<64>(chains, lengths, depth, mode, curve, spans, draft, widths)
     } else {
-        verify_many(chains, lengths, depth, mode, curve, spans, draft, widths)
+        verify_roomy::<1024>(chains, lengths, depth, mode, curve, spans, draft, widths)
     }
 }
 

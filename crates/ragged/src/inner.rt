@@ -43,80 +43,8 @@ fn trim_within(
     )
 }
 
-// The gate for at most 16 sequences, for which clearing the room of 64 would be a good part of the work.
-fn trim_small(
-    chains: &[f64],
-    mode: PriceMode,
-    curve: &[f64],
-    spans: &[u8],
-    depth: u32,
-    kind: DrafterCost,
-    rates: Rates,
-    loaded: &[f64],
-    widths: &mut [u32],
-) -> usize
-    requires fits { Fits chains.now widths.old (length widths.old) × (length widths.old ≤ 16) }
-    requires at_most { AtMost depth widths.old × (depth ≤ 64) }
-    requires priced { Priced mode curve.now spans.now }
-    ensures { record { widths = widths.new; weighed = result } ≡ ragged_widths (pass_of kind rates loaded.now) (rule_of mode curve.now (length widths.old)) chains.now depth widths.old }
-{
-    let mut rank = [0u64; 16];
-    let mut seq = [0u64; 16];
-    let mut passes = [0.0; 17];
-    trim_within(
-        chains,
-        mode,
-        curve,
-        spans,
-        depth,
-        kind,
-        rates,
-        loaded,
-        &mut rank,
-        &mut seq,
-        &mut passes,
-        widths,
-    )
-}
-
-// The gate for at most 64 sequences.
-fn trim_few(
-    chains: &[f64],
-    mode: PriceMode,
-    curve: &[f64],
-    spans: &[u8],
-    depth: u32,
-    kind: DrafterCost,
-    rates: Rates,
-    loaded: &[f64],
-    widths: &mut [u32],
-) -> usize
-    requires fits { Fits chains.now widths.old (length widths.old) × (length widths.old ≤ 64) }
-    requires at_most { AtMost depth widths.old × (depth ≤ 64) }
-    requires priced { Priced mode curve.now spans.now }
-    ensures { record { widths = widths.new; weighed = result } ≡ ragged_widths (pass_of kind rates loaded.now) (rule_of mode curve.now (length widths.old)) chains.now depth widths.old }
-{
-    let mut rank = [0u64; 64];
-    let mut seq = [0u64; 64];
-    let mut passes = [0.0; 65];
-    trim_within(
-        chains,
-        mode,
-        curve,
-        spans,
-        depth,
-        kind,
-        rates,
-        loaded,
-        &mut rank,
-        &mut seq,
-        &mut passes,
-        widths,
-    )
-}
-
-// The gate for at most 1,024.
-fn trim_many(
+// The gate for fewer than N sequences, since there is a pass more than sequences.
+fn trim_roomy<const N: usize>(
     chains: &[f64],
     mode: PriceMode,
     curve: &[f64],
@@ -128,13 +56,14 @@ fn trim_many(
     widths: &mut [u32],
 ) -> usize
     requires fits { Fits chains.now widths.old (length widths.old) }
+    requires room { (length widths.old < N) × (N ≤ 1025) }
     requires at_most { AtMost depth widths.old × (depth ≤ 64) }
     requires priced { Priced mode curve.now spans.now }
     ensures { record { widths = widths.new; weighed = result } ≡ ragged_widths (pass_of kind rates loaded.now) (rule_of mode curve.now (length widths.old)) chains.now depth widths.old }
 {
-    let mut rank = [0u64; 1024];
-    let mut seq = [0u64; 1024];
-    let mut passes = [0.0; 1025];
+    let mut rank = [0u64; N];
+    let mut seq = [0u64; N];
+    let mut passes = [0.0f64; N];
     trim_within(
         chains,
         mode,
@@ -151,7 +80,7 @@ fn trim_many(
     )
 }
 
-// The gate from widths that are as deep as they may be.
+// The gate from widths that are as deep as they may be. For a few sequences clearing the room of 64 would be a good part of the work.
 fn trim(
     chains: &[f64],
     mode: PriceMode,
@@ -169,15 +98,15 @@ fn trim(
     ensures { record { widths = widths.new; weighed = result } ≡ ragged_widths (pass_of kind rates loaded.now) (rule_of mode curve.now (length widths.old)) chains.now depth widths.old }
 {
     if widths.len() <= 16 {
-        trim_small(
+        trim_roomy::<17>(
             chains, mode, curve, spans, depth, kind, rates, loaded, widths,
         )
     } else if widths.len() <= 64 {
-        trim_few(
+        trim_roomy::<65>(
             chains, mode, curve, spans, depth, kind, rates, loaded, widths,
         )
     } else {
-        trim_many(
+        trim_roomy::<1025>(
             chains, mode, curve, spans, depth, kind, rates, loaded, widths,
         )
     }

@@ -9,7 +9,6 @@ ghost use Rattle.ragged.specs.Least.{AtLeast};
 ghost use Rattle.trim.specs.Ragged.{sum_from, survivals_from, tokens_from, pass_of, passes_of, full_draft};
 ghost use Rattle.trim.specs.Kept.{Counts, Passes, listed};
 
-use slots::inner::min_u32;
 use speculative::drafter::{DrafterCost, Rates};
 use speculative::inner::{loaded_at, pass_seconds, still_drafting};
 use verdict::inner::{Tally, starting};
@@ -20,10 +19,8 @@ fn sum_of(chain: &[f64]) -> f64
     ensures { result ≡ sum_from f0 chain.now }
 {
     let mut sum = 0.0;
-    let mut d = 0usize;
-    while d < chain.len() {
-        sum = sum + chain[d];
-        d += 1;
+    for survival in chain {
+        sum += *survival;
     }
     sum
 }
@@ -34,13 +31,10 @@ fn survivals(chains: &[f64], widths: &[u32]) -> f64
     ensures { result ≡ survivals_from f0 widths.now chains.now }
 {
     let mut sum = 0.0;
-    let mut k = 0usize;
-    while k < widths.len() {
+    for k in 0..widths.len() {
         let at = k * 64;
         let end = at + widths[k] as usize;
-        let one = sum_of(&chains[at..end]);
-        sum = sum + one;
-        k += 1;
+        sum += sum_of(&chains[at..end]);
     }
     sum
 }
@@ -51,11 +45,8 @@ fn tokens(widths: &[u32]) -> f64
     ensures { result ≡ tokens_from f0 widths.now }
 {
     let mut sum = 0u32;
-    let mut k = 0usize;
-    while k < widths.len() {
-        let t = widths[k] + 1;
-        sum = sum + t;
-        k += 1;
+    for width in widths {
+        sum += *width + 1;
     }
     sum as f64
 }
@@ -73,24 +64,19 @@ pub fn fill_passes(kind: DrafterCost, rates: Rates, loaded: &[f64], n: u32, pass
     requires { (n ≤ 1024) × (n < length passes.old) }
     ensures { Passes (pass_of kind rates loaded.now) passes.new n }
 {
-    let mut m = 0u32;
-    while m <= n {
-        let j = m;
-        m += 1;
-        let seconds = pass(kind, j, rates, loaded);
-        passes[j as usize] = seconds;
+    for m in 0..n + 1 {
+        passes[m as usize] = pass(kind, m, rates, loaded);
     }
 }
 
 // A number that no width is below: the smallest of `most` and the widths.
+#[tactic(auto, using(crate::proofs::Least::least_next))]
 fn smallest_of(widths: &[u32], most: u32) -> u32
     ensures { AtLeast result widths.now }
 {
     let mut least = most;
-    let mut i = 0usize;
-    while i < widths.len() {
-        least = min_u32(least, widths[i]);
-        i += 1;
+    for width in widths {
+        least = least.min(*width);
     }
     least
 }
@@ -116,13 +102,10 @@ fn drafting(widths: &[u32], depth: u32, passes: &[f64], nk: &mut [u32]) -> f64
 {
     let least = smallest_of(widths, depth);
     let mut sum = 0.0;
-    let mut d = 0u32;
-    while d < depth {
-        let at = d as usize;
-        d += 1;
-        let m = wide_enough(widths, d, least);
-        nk[at] = m;
-        sum = sum + passes[m as usize];
+    for d in 0..depth {
+        let m = wide_enough(widths, d + 1, least);
+        nk[d as usize] = m;
+        sum += passes[m as usize];
     }
     sum
 }

@@ -1,5 +1,5 @@
 // Slots of the sequences' chains, which lie in one slice, 64 a sequence, and their ranks.
-ghost use Rattle.std.specs.Prelude.{◌≡◌, ◌+◌, ◌*◌, ◌≤◌, ◌<◌, min, length, drop, replicate};
+ghost use Rattle.std.specs.Prelude.{◌≡◌, ◌+◌, ◌*◌, ◌≤◌, ◌<◌, min, length, drop};
 ghost use Rattle.heap.specs.Heap.{Stands, candidate};
 ghost use Rattle.heap.specs.Greedy.{head_of, frontier};
 ghost use Rattle.slots.specs.Slots.{Fits, flipped, starts, survival, stacks, down_from};
@@ -15,25 +15,7 @@ pub struct Slot {
 pub fn flip(b: u64) -> u64
     ensures { result ≡ flipped b }
 {
-    18446744073709551615 - b
-}
-
-// The smaller of two numbers.
-pub fn min_u32(a: u32, b: u32) -> u32
-    ensures { result ≡ min a b }
-{
-    if a < b { a } else { b }
-}
-
-// Zero everywhere.
-pub fn clear(s: &mut [u32])
-    ensures { s.new ≡ replicate (length s.old) 0 }
-{
-    let mut i = 0;
-    while i < s.len() {
-        s[i] = 0;
-        i += 1;
-    }
+    u64::MAX - b
 }
 
 // Every sequence at the batch's depth, or at its chain's end.
@@ -41,10 +23,8 @@ pub fn start_widths(lengths: &[u32], depth: u32, widths: &mut [u32])
     requires { length widths.old ≡ length lengths.now }
     ensures { widths.new ≡ starts depth lengths.now }
 {
-    let mut k = 0usize;
-    while k < lengths.len() {
-        widths[k] = min_u32(depth, lengths[k]);
-        k += 1;
+    for k in 0..lengths.len() {
+        widths[k] = depth.min(lengths[k]);
     }
 }
 
@@ -82,14 +62,11 @@ pub fn fill_deepest(chains: &[f64], widths: &[u32], rank: &mut [u64], seq: &mut 
     ensures { (result ≤ length widths.now) × Stands rank.new seq.new result (frontier (stacks down_from widths.now chains.now)) }
 {
     let mut m: usize = 0;
-    let mut k: usize = 0;
-    while k < widths.len() {
-        let j = k;
-        k += 1;
-        let slot = deepest(chains, j, widths[j]);
+    for k in 0..widths.len() {
+        let slot = deepest(chains, k, widths[k]);
         if slot.more {
             rank[m] = slot.rank;
-            seq[m] = j as u64;
+            seq[m] = k as u64;
             m += 1;
         }
     }

@@ -82,6 +82,7 @@ fn weigh_all(
     let mut due = first;
     let mut weighed: usize = 0;
     let mut tally = start;
+    // no index is counted: each turn weighs the heap's top, until none is left or no other pays
     while 0 < live {
         let k = seq[0] as usize;
         weighed += 1;

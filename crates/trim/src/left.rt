@@ -13,6 +13,7 @@ use verify_prices::PriceMode;
 use verify_prices::inner::{is_shut, verify_price};
 
 // What the last of m sequences adds to a pass.
+#[tactic(auto, unfolding(crate::specs::Ragged::margin_of))]
 pub fn margin(passes: &[f64], m: u32) -> f64
     requires { (0 < m) × (m < length passes.now) }
     ensures { result ≡ margin_of (listed passes.now) m }
@@ -77,11 +78,8 @@ pub fn none_pays(
     }
     let vp = verify_price(mode, curve, spans, n, tally.tokens - 1.0);
     let shut = is_shut(mode, vp);
-    let mut i = 0usize;
-    while i < rest.len() {
-        let k = rest[i] as usize;
-        i += 1;
-        if slot_pays(chains, widths, nk, passes, k, shut, vp, tally) {
+    for k in rest {
+        if slot_pays(chains, widths, nk, passes, *k as usize, shut, vp, tally) {
             return false;
         }
     }

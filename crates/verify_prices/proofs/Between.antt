@@ -1,13 +1,13 @@
 -- The bridged price by the depths that were looked for before: they are in order and on the curve. Assumes nothing.
 use Prim.Native.Nat.{ℕ, ◌+◌, ◌-◌, ◌≤◌, ◌<◌, min}
-use mathlib.Core.Path.{◌≡◌, sym, ap, ◌∙◌}
+use mathlib.Core.Path.{◌≡◌, ap, ◌∙◌}
 use mathlib.Core.Bool.{Bool, true, false, cond}
 use mathlib.Core.List.{List}
 use native.Mathlib.Omega.{arith}
-use borrow.Author.Tests.{eq-eqb, ne_eqb}
+use borrow.Author.Tests.{eq-eqb}
 use lib.ListN.{length, get_or}
 use lib.Ieee.{Float, nan, lt}
-use Rattle.float.specs.Floats.{plus, less, times, over, whole, f0, infinity, is_finite}
+use Rattle.float.specs.Floats.{less, whole, f0, is_finite}
 use Rattle.verify_prices.specs.Price.{mean_width}
 use Rattle.verify_prices.specs.Bridge.{lower, upper, straight, foot_of, ceiling_of, bridged, bridged_cost}
 use Rattle.verify_prices.specs.Rule.{Spanned}
@@ -22,34 +22,11 @@ module _ (gamma : ℕ) (w : Float) (s : ℕ) (h : s ≤ gamma) where
       go true = (omega arith, omega arith)
       go false = (omega arith, h)
 
-  pub ceiling_up : lt f0 (less w (whole s)) ≡ true → s < gamma → s + 1 ≡ ceiling_of gamma w s
-  ceiling_up e l = let m : s + 1 ≡ min (s + 1) gamma = omega arith in m ∙ sym (ap (λ (b : Bool). cond b (min (s + 1) gamma) s) e)
-
-  pub ceiling_top : lt f0 (less w (whole s)) ≡ true → gamma ≤ s → s ≡ ceiling_of gamma w s
-  ceiling_top e l = let m : s ≡ min (s + 1) gamma = omega arith in m ∙ sym (ap (λ (b : Bool). cond b (min (s + 1) gamma) s) e)
-
-  pub ceiling_here : lt f0 (less w (whole s)) ≡ false → s ≡ ceiling_of gamma w s
-  ceiling_here e = sym (ap (λ (b : Bool). cond b (min (s + 1) gamma) s) e)
-
--- ---- straight between two depths, each way out
-module _ (w : Float) (low high : ℕ) (x y : Float) where
-  pub first_hole : is_finite x ≡ false → infinity ≡ straight w low high x y
+-- ---- straight between two depths that are one
+module _ (w : Float) (low high : ℕ) (x y : Float) (p : is_finite x ≡ true) (q : is_finite y ≡ true) where
+  pub one_depth : high ≡ low → x ≡ straight w low high x y
   unfolding straight
-  first_hole h = rw h
-
-  module _ (p : is_finite x ≡ true) where
-    pub second_hole : is_finite y ≡ false → infinity ≡ straight w low high x y
-    unfolding straight
-    second_hole h = rw (p, h)
-
-    module _ (q : is_finite y ≡ true) where
-      pub one_depth : high ≡ low → x ≡ straight w low high x y
-      unfolding straight
-      one_depth e = rw (p, q, eq-eqb high low e)
-
-      pub two_depths : (high ≡ low → ⊥) → plus x (times (over (less w (whole low)) (whole (high - low))) (less y x)) ≡ straight w low high x y
-      unfolding straight
-      two_depths e = rw (p, q, ne_eqb high low e)
+  one_depth e = rw (p, q, eq-eqb high low e)
 
 -- ---- what the spans have at a width
 pub record Spot (curve : List Float) (spans : List ℕ) (s r : ℕ) : Type 0 where

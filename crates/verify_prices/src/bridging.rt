@@ -19,12 +19,9 @@ fn fill_below(curve: &[f64], spans: &mut [u8])
     ensures { Lows curve.now spans.new }
 {
     let mut held = 0usize;
-    let mut g = 0usize;
-    while g < curve.len() {
-        let next = nearer(curve[g], g, held);
-        spans[g] = next as u8;
-        held = next;
-        g += 1;
+    for g in 0..curve.len() {
+        held = nearer(curve[g], g, held);
+        spans[g] = held as u8;
     }
 }
 
@@ -35,13 +32,9 @@ fn fill_above(curve: &[f64], spans: &mut [u8])
     ensures below { SameTo 65 spans.new spans.old }
 {
     let mut held = curve.len() - 1;
-    let mut g = curve.len();
-    while 0 < g {
-        let k = g - 1;
-        let next = nearer(curve[k], k, held);
-        spans[65 + k] = next as u8;
-        held = next;
-        g = k;
+    for k in (0..curve.len()).rev() {
+        held = nearer(curve[k], k, held);
+        spans[65 + k] = held as u8;
     }
 }
 
@@ -55,15 +48,13 @@ pub fn fill_spans(curve: &[f64], spans: &mut [u8])
 }
 
 // Straight between the depths low and high, priced x and y; x where they are one, and +infinity where one of them is not measured.
+#[tactic(auto, unfolding(crate::specs::Bridge::straight))]
 fn straight(w: f64, low: usize, high: usize, x: f64, y: f64) -> f64
     requires { (low ≤ high) × (high ≤ 64) }
     ensures { result ≡ straight w low high x y }
 {
-    if !float::is_finite(x) {
-        return f64::from_bits(0x7ff0_0000_0000_0000);
-    }
-    if !float::is_finite(y) {
-        return f64::from_bits(0x7ff0_0000_0000_0000);
+    if !float::is_finite(x) || !float::is_finite(y) {
+        return f64::INFINITY;
     }
     if high == low {
         return x;

@@ -8,6 +8,7 @@ use crate::bridging::bridged_cost;
 use crate::widths::{mean_width, segment_of};
 
 // The mode that a number stands for: 0 the default, any other bridged. Who refuses a number that stands for none does so first.
+#[tactic(auto, unfolding(crate::specs::Rule::mode_of))]
 pub fn mode_of(number: u32) -> PriceMode
     ensures { result ≡ mode_of number }
 {
@@ -18,6 +19,7 @@ pub fn mode_of(number: u32) -> PriceMode
 }
 
 // The curve's price at that mean width, straight between the two depths around it.
+#[tactic(auto, unfolding(crate::specs::Price::verify_cost))]
 pub fn verify_cost(curve: &[f64], n: u32, t: f64) -> f64
     requires { (1 < length curve.now) × (length curve.now ≤ 65) }
     ensures { result ≡ verify_cost curve.now n t }

@@ -17,7 +17,7 @@ pub fn segment_of(gamma: u32, w: f64) -> usize
 {
     let below = numeral::whole_part(w) as usize;
     let last = gamma as usize - 1;
-    if below < last { below } else { last }
+    below.min(last)
 }
 
 // The whole part of the width w, at most gamma.
@@ -25,8 +25,7 @@ pub fn foot_of(gamma: u32, w: f64) -> usize
     ensures { result ≡ foot_of gamma w }
 {
     let below = numeral::whole_part(w) as usize;
-    let most = gamma as usize;
-    if below < most { below } else { most }
+    below.min(gamma as usize)
 }
 
 // The depth at or above the width w, whose whole part is s.
@@ -36,7 +35,8 @@ pub fn ceiling_of(gamma: u32, w: f64, s: usize) -> usize
 {
     let rest = w - s as f64;
     if rest > 0.0 {
-        return if s < gamma as usize { s + 1 } else { s };
+        (s + 1).min(gamma as usize)
+    } else {
+        s
     }
-    s
 }

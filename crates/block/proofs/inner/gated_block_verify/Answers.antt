@@ -1,8 +1,7 @@
 -- `inner::gated_block_verify` meets its contract, by those of the functions that it calls. Assumes nothing.
 use Prim.Native.Nat.{ℕ}
 use mathlib.Core.Path.{sym, ap, ◌∙◌}
-use native.Mathlib.Omega.{arith}
-use lib.ListN.{length, replicate, length-replicate}
+use lib.ListN.{length, replicate}
 use Rattle.verify_prices.specs.Rule.{rule_of}
 use Rattle.block.proofs.Whole.{block_none, block_shut, block_some}
 use Rattle.block.proofs.inner.gated_block_verify.Goals as goal
@@ -11,25 +10,13 @@ pub returns-then-depth-eq0 : goal.returns-then-depth-eq0
 returns-then-depth-eq0 c =
     let a = c.args in
     block_none (rule_of a.mode a.curve.now (length a.lengths.now)) a.chains.now a.lengths.now a.curve.now a.depth a.kind a.rates a.loaded.now
-    _ c.if-depth-eq0.true (c.clear.ensures ∙ ap (λ (m : ℕ). replicate m 0) c.requires.widths_len)
-
-pub start_widths-requires : goal.start_widths-requires
-start_widths-requires c = ap length c.clear.ensures ∙ length-replicate {A = ℕ} _ 0 ∙ c.requires.widths_len
+    _ c.if-depth-eq0.true (c.fill.ensures.after (λ y e. e) ∙ ap (λ (m : ℕ). replicate m 0) c.requires.widths_len)
 
 pub returns-then-is_shut : goal.returns-then-is_shut
 returns-then-is_shut c =
     let a = c.args in
     block_shut (rule_of a.mode a.curve.now (length a.lengths.now)) a.chains.now a.lengths.now a.curve.now a.depth a.kind a.rates a.loaded.now
     _ c.if-depth-eq0.false (sym c.is_shut.ensures ∙ c.if-is_shut.true) c.start_widths.ensures
-
-pub verify_by-requires-clause-fits : goal.verify_by-requires-clause-fits
-verify_by-requires-clause-fits c = c.requires.fits
-
-pub verify_by-requires-clause-in_bounds : goal.verify_by-requires-clause-in_bounds
-verify_by-requires-clause-in_bounds c = (omega (arith, c.if-depth-eq0.false, c.requires.depth_in_bounds), c.requires.depth_in_bounds.1)
-
-pub verify_by-requires-clause-widths_value : goal.verify_by-requires-clause-widths_value
-verify_by-requires-clause-widths_value c = c.clear.ensures ∙ ap (λ (m : ℕ). replicate m 0) c.requires.widths_len
 
 pub returns : goal.returns
 returns c =

@@ -15,26 +15,19 @@ room : (c : List Float) (lengths : List ℕ) (k depth : ℕ) → Fits c lengths 
     → min depth (get_or lengths k 0) ≤ length (drop (k * 64) c)
 room c lengths k depth f l = omega (arith, length-drop (k * 64) c, f.narrow k l, f.room)
 
-pub survival_at-requires : goal.survival_at-requires
-survival_at-requires c =
-    let a = c.args in
-    let f = c.requires.fits in
-    let narrow = f.narrow a.k c.requires.k_in_bounds in
-    (omega (arith, f.room, c.requires.k_in_bounds), omega (arith, narrow, c.min_u32.ensures, c.if-w-min_u32.true))
-
-pub returns-then-w-min_u32 : goal.returns-then-w-min_u32
-returns-then-w-min_u32 c =
+pub returns-then-w-min : goal.returns-then-w-min
+returns-then-w-min c =
     let a = c.args in
     let x = drop (a.k * 64) a.chains.now in
     let cap = min a.depth (get_or a.lengths.now a.k 0) in
     ap {B = Option ℕ} some (c.bits.ensures ∙ ap bits (c.survival_at.ensures ∙ sym (get_or-drop (a.k * 64) a.chains.now a.w nan)))
     ∙ up_more cap x (room a.chains.now a.lengths.now a.k a.depth c.requires.fits c.requires.k_in_bounds) a.w
-    (omega (arith, c.min_u32.ensures, c.if-w-min_u32.true))
+    (omega (arith, c.min.ensures, c.if-w-min.true))
 
-pub returns-else-w-min_u32 : goal.returns-else-w-min_u32
-returns-else-w-min_u32 c =
+pub returns-else-w-min : goal.returns-else-w-min
+returns-else-w-min c =
     let a = c.args in
     let x = drop (a.k * 64) a.chains.now in
     let cap = min a.depth (get_or a.lengths.now a.k 0) in
     up_over cap x (room a.chains.now a.lengths.now a.k a.depth c.requires.fits c.requires.k_in_bounds) a.w
-    (omega (arith, c.min_u32.ensures, c.if-w-min_u32.false))
+    (omega (arith, c.min.ensures, c.if-w-min.false))

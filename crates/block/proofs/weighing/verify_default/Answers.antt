@@ -2,11 +2,5 @@
 use Rattle.verify_prices.proofs.Priced.{priced_default}
 use Rattle.block.proofs.weighing.verify_default.Goals as goal
 
-pub verify_block-requires-clause-fits : goal.verify_block-requires-clause-fits
-verify_block-requires-clause-fits c = c.requires.fits
-
 pub verify_block-requires-clause-priced : goal.verify_block-requires-clause-priced
 verify_block-requires-clause-priced c = priced_default c.args.curve.now _ c.requires.in_bounds
-
-pub verify_block-requires-clause-widths_value : goal.verify_block-requires-clause-widths_value
-verify_block-requires-clause-widths_value c = c.requires.widths_value

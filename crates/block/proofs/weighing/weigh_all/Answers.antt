@@ -1,6 +1,6 @@
 -- `weighing::weigh_all` meets its contract. The loop's invariant is `Growing`: the code is in step with the definition; and the tally's rate is that of
 -- its sums. The measure is the number of slots that are not weighed yet, at most. Assumes nothing.
-use Prim.Native.Nat.{ℕ, ◌+◌, ◌*◌, ◌-◌, ◌<◌, min}
+use Prim.Native.Nat.{ℕ, ◌+◌, ◌*◌, ◌<◌, min}
 use native.Mathlib.Omega.{arith}
 use mathlib.Core.Path.{◌≡◌, sym, ap, ◌∙◌}
 use mathlib.Core.List.{List}

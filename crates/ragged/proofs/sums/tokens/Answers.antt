@@ -1,6 +1,6 @@
 -- `sums::tokens` meets its contract. The invariant: the sum of what is left, from the sum so far on as a float, is that of the whole; and the sum so far is
 -- small enough to be held exactly. Assumes nothing.
-use Prim.Native.Nat.{ℕ, ◌+◌, ◌-◌, ◌*◌, ◌≤◌, ◌<◌}
+use Prim.Native.Nat.{ℕ, ◌+◌, ◌*◌, ◌≤◌, ◌<◌}
 use mathlib.Core.Path.{◌≡◌, refl, sym, ap, ◌∙◌}
 use mathlib.Core.List.{List}
 use native.Mathlib.Omega.{arith}
@@ -21,24 +21,19 @@ counts : (k sum : ℕ) (ws : List ℕ) → k < length ws → length ws ≤ 1024 
 counts k sum ws l few small narrow =
     ap (λ (x : Float). tokens_from x (drop (k + 1) ws)) (sym (whole_plus sum (get_or ws k 0 + 1) (omega arith) (omega arith))) ∙ tokens_next k (whole sum) ws l
 
-pub loop-k-init : goal.loop-k-init
-loop-k-init c = (omega arith, (omega arith, ap (λ (x : Float). tokens_from x c.args.widths.now) (sym none_yet)))
-
-pub overflow_add-t : goal.overflow_add-t
-overflow_add-t c = omega (arith, c.requires.0 c.loop-k.k c.loop-k-test.true)
+pub loop-width-init : goal.loop-width-init
+loop-width-init c = (omega arith, ap (λ (x : Float). tokens_from x c.args.widths.now) (sym none_yet))
 
 pub overflow_add-sum : goal.overflow_add-sum
-overflow_add-sum c = omega (arith, c.requires.0 c.loop-k.k c.loop-k-test.true, c.loop-k.invariant.1.0, c.requires.1)
+overflow_add-sum c = omega (arith, c.requires.0 c.loop-width.width-index c.loop-width-test.true, c.loop-width.invariant.0, c.requires.1)
 
-pub loop-k-preserved : goal.loop-k-preserved
-loop-k-preserved c =
-    let narrow = c.requires.0 c.loop-k.k c.loop-k-test.true in (
-      omega arith,
-      (
-        omega (arith, narrow, c.loop-k.invariant.1.0),
-        counts c.loop-k.k c.loop-k.sum c.args.widths.now c.loop-k-test.true c.requires.1 c.loop-k.invariant.1.0 narrow ∙ c.loop-k.invariant.1.1,
-      ),
+pub loop-width-preserved : goal.loop-width-preserved
+loop-width-preserved c =
+    let at = c.loop-width in
+    let narrow = c.requires.0 at.width-index c.loop-width-test.true in (
+      omega (arith, narrow, at.invariant.0),
+      counts at.width-index at.sum c.args.widths.now c.loop-width-test.true c.requires.1 at.invariant.0 narrow ∙ at.invariant.1,
     )
 
 pub returns : goal.returns
-returns c = sym (tokens_ended c.loop-k.k (whole c.loop-k.sum) c.args.widths.now c.loop-k-test.false) ∙ c.loop-k.invariant.1.1
+returns c = sym (tokens_ended c.loop-width.width-index (whole c.loop-width.sum) c.args.widths.now c.loop-width-test.false) ∙ c.loop-width.invariant.1

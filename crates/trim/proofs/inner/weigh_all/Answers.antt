@@ -74,22 +74,6 @@ weigh-verdict-requires-clause-nk_len c = let at = c.loop-live in
       omega (arith, here, still_few at.widths (get_or at.widths k 0), widths_count (fits_sized down_from down_short c.requires.fits) at.invariant.0, c.requires.n_in_bounds),
     )
 
-pub weigh-verdict-requires-clause-priced : goal.weigh-verdict-requires-clause-priced
-weigh-verdict-requires-clause-priced c = let at = c.loop-live in
-    let k = get_or at.seq 0 0 in
-    let h = c.loop-live-test.true in
-    let wide = width_room c.requires.fits (fits_sized down_from down_short c.requires.fits) at.invariant.0 h in
-    let top = top_open c.requires.fits (fits_sized down_from down_short c.requires.fits) at.invariant.0 h in
-    let here = count_here at.invariant.1.0 k wide top.0 top.1 in c.requires.priced
-
-pub weigh-verdict-requires-clause-rated_2 : goal.weigh-verdict-requires-clause-rated_2
-weigh-verdict-requires-clause-rated_2 c = let at = c.loop-live in
-    let k = get_or at.seq 0 0 in
-    let h = c.loop-live-test.true in
-    let wide = width_room c.requires.fits (fits_sized down_from down_short c.requires.fits) at.invariant.0 h in
-    let top = top_open c.requires.fits (fits_sized down_from down_short c.requires.fits) at.invariant.0 h in
-    let here = count_here at.invariant.1.0 k wide top.0 top.1 in at.invariant.1.1
-
 pub returns-in-Stop : goal.returns-in-Stop
 unfolding ragged_widths
 returns-in-Stop c =
@@ -111,10 +95,6 @@ slice_bounds-rest-end c = omega (arith, c.loop-live.invariant.0.seqs_kept, live_
 
 pub slice_bounds-rest-end-in-Pass : goal.slice_bounds-rest-end-in-Pass
 slice_bounds-rest-end-in-Pass c = sym (length-take-le c.loop-live.live c.loop-live.seq (omega (arith, c.loop-live.invariant.0.seqs_kept, live_few (fits_sized down_from down_short c.requires.fits) c.loop-live.invariant.0, c.requires.n_in_bounds_2)))
-
-pub none_pays-requires-clause-priced : goal.none_pays-requires-clause-priced
-none_pays-requires-clause-priced c = let a = c.args in
-    let at = c.loop-live in c.requires.priced
 
 pub none_pays-requires-clause-nk_len : goal.none_pays-requires-clause-nk_len
 none_pays-requires-clause-nk_len c = let a = c.args in
