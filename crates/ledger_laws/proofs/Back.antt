@@ -15,14 +15,16 @@ use Rattle.ledger_rows.proofs.Tests.{by_test, not_both}
 use Rattle.ledger_rows.specs.Layout.{room, available, seconds_most, workers_most, changes_most, change_wide, drafts_in, sequences_in, committed_in, planned_in, kind_in, worker_ain, worker_bin, width_in, rounds_in, stall_in}
 use Rattle.ledger_workers.specs.Workers.{worker_less, worker_same}
 use Rattle.ledger_changes.specs.Changes.{following, newest_at, popped, step_back, worker_back}
+use Rattle.refusals.specs.declared.Refusal.TheVariants.{NoWithdrawal}
+use Rattle.refusals.specs.Refusals.{passed_if}
 use Rattle.ledger.specs.Calls.{withdrawn}
-use Rattle.ledger_laws.specs.Model.{Worker, Switching, Plan, Change, planned, decided, cleared, Sums, sums_at, cleaned, record_of, back, Standing, refusal, step}
+use Rattle.ledger_laws.specs.Model.{Worker, Switching, Plan, Change, planned, decided, cleared, Sums, sums_at, cleaned, record_of, back, Standing, step}
 use Rattle.ledger_laws.specs.Encode.{add_plan, seconds_given, clean_at, workers_given, before as earlier, logged, change_words, past_from, Newest, slot_of, newest_of, laid, encode}
 use Rattle.ledger_laws.proofs.Given.{seconds_ascend, workers_ascend, held_sums, at_seconds, at_workers, Sound}
 use Rattle.ledger_laws.proofs.WordWays.{step_plan, step_none, worker_none, worker_new, worker_old}
 use Rattle.ledger_laws.proofs.Laid.{held_changes, newest_word, popped_change}
 use Rattle.ledger_laws.proofs.Steps.{removed, dropped, put_back}
-use Rattle.ledger_laws.proofs.Forth.{slot_inside, fit_seconds, fit_workers, wide_enough, answer_of}
+use Rattle.ledger_laws.proofs.Forth.{slot_inside, fit_seconds, fit_workers, wide_enough}
 
 held_steps : (s u : Sums) → held_sums s ≡ some u → 1 ≤ u.steps
 unfolding held_sums
@@ -125,8 +127,8 @@ one_less c cs j rest sound few =
     ∙ popped_change (length (seconds_given cs)) (length (workers_given cs)) (workers_given cs) (seconds_given cs) rest (slot_of cs) (slot_inside cs) (c, earlier c cs) (take j (logged cs)) short j
 
 pub back_made : (cs : List Change) (left : ℕ) (rest : List ℕ) → Sound cs → left ≤ changes_most → left ≤ length cs
-    → withdrawn (encode (record { changes = cs; left = left }) rest) ≡ (answer_of (refusal back (record { changes = cs; left = left })), encode (step back (record { changes = cs; left = left })) rest)
-unfolding withdrawn step refusal
+    → withdrawn (encode (record { changes = cs; left = left }) rest) ≡ (passed_if (ltb 0 left) NoWithdrawal, encode (step back (record { changes = cs; left = left })) rest)
+unfolding withdrawn step
 back_made cs zero rest sound few there =
     rw (le-ltb (length (encode (record { changes = cs; left = zero }) rest)) room (wide_enough (record { changes = cs; left = zero }) rest), left_is cs zero rest few)
 back_made [] (suc j) rest sound few there = absurd (not-suc-le-zero there)

@@ -1,31 +1,31 @@
 -- Plans and collections on words that hold what stands: each call answers by the rules, and leaves the words of what then stands. Assumes nothing.
 use mathlib.Core.Path.{◌≡◌, refl, sym, ap, ◌∙◌}
-use mathlib.Core.Bool.{true, cond}
+use mathlib.Core.Bool.{Bool, true, false, cond}
 use mathlib.Core.List.{List, [], ◌∷◌}
 use mathlib.Core.Logic.{⊎_elim}
 use mathlib.Core.Option.{Option, none, some}
 use Prim.Native.Nat.{ℕ, suc, ◌+◌, ◌-◌, ◌≤◌, ◌<◌, min}
 use native.Mathlib.Nat.{eq-or-lt_of_le}
 use native.Mathlib.Omega.{arith}
-use borrow.Author.Tests.{le-ltb, eqb-true}
+use borrow.Author.Tests.{le-ltb, eqb-true, ne_eqb}
 use lib.Dec.{ltb, eqb}
-use lib.Ieee.{binary64, of_bits}
+use lib.Ieee.{Float, binary64, of_bits}
 use lib.ListN.{length, take, length-append}
 use Rattle.ledger_rows.specs.Map.{at, put_at, is_held, before}
 use Rattle.ledger_rows.specs.Table.{pad}
 use Rattle.ledger_rows.proofs.Tests.{by_test, not_both}
 use Rattle.ledger_rows.proofs.Tables.{length_pad, length_flat, pad_take}
-use Rattle.ledger.specs.declared.answer.Answer.{Answer}
-use Rattle.ledger.specs.declared.answer.Answer.TheVariants.{Done, Refused}
-use Rattle.ledger.specs.declared.answer.Stall.{Stall}
-use Rattle.ledger.specs.declared.answer.Stall.TheVariants.{Seconds}
+use Rattle.std.specs.Prelude.{Result, Ok, Err}
+use Rattle.refusals.specs.declared.Refusal.{Refusal}
+use Rattle.refusals.specs.Refusals.{Judgement, and_then, number_of, number_in}
+use Rattle.refusals.proofs.First.{no_zero}
 use Rattle.ledger.specs.declared.answer.Decision.TheVariants.{Nothing, Put}
 use Rattle.ledger_rows.specs.Layout.{room, seconds_most, workers_most, changes_most, steps_most, second_wide, worker_wide, change_wide, steps_in}
 use Rattle.ledger_seconds.specs.Seconds.{step_added}
 use Rattle.ledger_workers.specs.Workers.{worker_less, worker_same, past_of, worker_put}
 use Rattle.ledger_changes.specs.Changes.{change_laid, no_step, pushed}
 use Rattle.ledger_acts.specs.Acts.{plain_done, decided_done, collected_done}
-use Rattle.ledger.specs.Calls.{step_judged, worker_judged, or_else, recorded, collected_of, collected}
+use Rattle.ledger.specs.Calls.{step_allowed, worker_allowed, step_judged, worker_judged, or_else, unless, recorded, collected_of, collected}
 use Rattle.ledger_laws.specs.Model.{Worker, Switching, Plan, Change, planned, decided, cleared, Sums, sums_at, cleaned, record_of, step_rule, worker_rule, plan, decide, collect, Standing, refusal, stands, step, Small}
 use Rattle.ledger_laws.specs.Encode.{add_plan, seconds_given, clean_at, workers_given, before as earlier, logged, second_words, worker_words, change_words, past_from, no_change, Newest, slot_of, newest_of, laid, encode}
 use Rattle.ledger_laws.specs.Run.{record_from, record_in}
@@ -184,15 +184,32 @@ cleared_done w o s rest r e =
 
 -- ---- what each call answers and leaves
 
-abbrev pub answer_of : ℕ → Answer
-answer_of refused = cond (eqb refused 0) Done (Refused refused)
+-- the words of one of two standings
+of_two : (b : Bool) (x y : Standing) (rest : List ℕ) → cond b (encode x rest) (encode y rest) ≡ encode (cond b x y) rest
+of_two true x y rest = refl
+of_two false x y rest = refl
+
+-- a refusal's number is not 0
+not_zero : (x : Refusal) → eqb (number_of x) 0 ≡ false
+not_zero x = ne_eqb (number_of x) 0 (λ e. omega (arith, no_zero x))
+
+-- what is left by a judgement whose number the rules give
+ruled : (j : Judgement) (n : ℕ) (ws after then : List ℕ) → number_in j ≡ n → (n ≡ 0 → after ≡ then) → unless j ws after ≡ (j, cond (eqb n 0) then ws)
+ruled (Ok tt) n ws after then e h = rw (← e, h (sym e))
+ruled (Err x) n ws after then e h = rw (← e, not_zero x)
+
+-- the number of two judgements is that of the first that refuses
+pub number_or_else : (x y : Judgement) → number_in (and_then x y) ≡ or_else (number_in x) (number_in y)
+number_or_else (Ok tt) y = refl
+number_or_else (Err x) y = rw (not_zero x)
 
 pub plan_made : (p : Plan) (s : Standing) (rest : List ℕ) → Small p → Reached s
-    → recorded (encode s rest) p Nothing ≡ (answer_of (refusal (plan p) s), encode (step (plan p) s) rest)
+    → recorded (encode s rest) p Nothing ≡ (step_allowed (encode s rest) p.second, encode (step (plan p) s) rest)
 unfolding recorded step refusal
-plan_made p s rest small r = rw (by_rule s rest r p.second) (by_test (eqb (step_rule p.second s.changes) 0)
-    (λ l. rw (l, plain_done_lem p s rest r small (eqb-true (step_rule p.second s.changes) 0 l)))
-    (λ l. rw l))
+plan_made p s rest small r =
+    let n : ℕ = step_rule p.second s.changes in
+    ruled (step_allowed (encode s rest) p.second) n (encode s rest) (plain_done (encode s rest) p) (encode (stands (planned p) s) rest) (by_rule s rest r p.second) (λ e. plain_done_lem p s rest r small e)
+    ∙ ap (λ (l : List ℕ). (step_allowed (encode s rest) p.second, l)) (of_two (eqb n 0) (stands (planned p) s) s rest)
 
 pub first_zero : (x y : ℕ) → eqb (or_else x y) 0 ≡ true → x ≡ 0
 first_zero x y h = by_test (eqb x 0) (λ l. eqb-true x 0 l) (λ l. absurd (not_both (eqb x 0) (rw l at h) l))
@@ -207,27 +224,31 @@ read_back (some r) = refl
 
 pub decide_made : (p : Plan) (w : Worker) (f : Option Switching → Switching) (s : Standing) (rest : List ℕ) → Small p → Reached s
     → recorded (encode s rest) p (Put w.0 w.1 (f (record_in (encode s rest) w)).width (f (record_in (encode s rest) w)).rounds (f (record_in (encode s rest) w)).stall)
-    ≡ (answer_of (refusal (decide p w f) s), encode (step (decide p w f) s) rest)
+    ≡ (and_then (worker_allowed (encode s rest) w.0 w.1) (step_allowed (encode s rest) p.second), encode (step (decide p w f) s) rest)
 unfolding recorded step refusal record_in
 decide_made p w f s rest small r =
     let cs : List Change = s.changes in
+    let E : List ℕ = encode s rest in
     let rule : ℕ = or_else (worker_rule w cs) (step_rule p.second cs) in
-    rw (by_rule s rest r p.second, by_worker_rule s rest r w, record_read s rest r w, read_back (record_of w cs)) (by_test (eqb rule 0)
-    (λ l. rw (l, decided_done_lem p w f s rest r small (first_zero (worker_rule w cs) (step_rule p.second cs) l) (then_zero (worker_rule w cs) (step_rule p.second cs) l)))
-    (λ l. rw l))
+    let both : Judgement = and_then (worker_allowed E w.0 w.1) (step_allowed E p.second) in
+    let by : number_in both ≡ rule = number_or_else (worker_allowed E w.0 w.1) (step_allowed E p.second) ∙ rw (by_worker_rule s rest r w, by_rule s rest r p.second) in
+    rw (record_read s rest r w, read_back (record_of w cs))
+    (ruled both rule E (decided_done E p w.0 w.1 (f (record_of w cs)).width (f (record_of w cs)).rounds (f (record_of w cs)).stall (past_from (record_of w cs))) (encode (stands (decided p w f) s) rest) by
+    (λ e. decided_done_lem p w f s rest r small (first_zero (worker_rule w cs) (step_rule p.second cs) (rw e)) (then_zero (worker_rule w cs) (step_rule p.second cs) (rw e)))
+    ∙ ap (λ (l : List ℕ). (both, l)) (of_two (eqb rule 0) (stands (decided p w f) s) s rest))
 
 -- the stall that a collection answers
-abbrev pub stall_of : Option Switching → Stall
-stall_of none = Seconds (of_bits binary64 0)
-stall_of (some r) = Seconds (of_bits binary64 r.stall)
+abbrev pub stall_of : Option Switching → Result Float Refusal
+stall_of none = Ok (of_bits binary64 0)
+stall_of (some r) = Ok (of_bits binary64 r.stall)
 
 pub collect_made : (w : Worker) (s : Standing) (rest : List ℕ) → Reached s → collected (encode s rest) w.0 w.1 ≡ (stall_of (record_of w s.changes), encode (step (collect w) s) rest)
 unfolding collected step collected_of
 collect_made w s rest r = rw (le-ltb (length (encode s rest)) room (wide_enough s rest), record_read s rest r w) (by_record (record_of w s.changes) refl)
   where
     by_record : (o : Option Switching) → record_of w s.changes ≡ o
-        → ◌≡◌ {A = Stall × List ℕ}
-        (cond (eqb (past_from o).kind 2) (Seconds (of_bits binary64 (past_from o).stall), collected_done (encode s rest) w.0 w.1 (past_from o)) (Seconds (of_bits binary64 0), encode s rest))
+        → ◌≡◌ {A = Result Float Refusal × List ℕ}
+        (cond (eqb (past_from o).kind 2) (Ok (of_bits binary64 (past_from o).stall), collected_done (encode s rest) w.0 w.1 (past_from o)) (Ok (of_bits binary64 0), encode s rest))
         (stall_of o, encode (cond (is_held o) (stands (cleared w) s) s) rest)
     by_record none e = refl
     by_record (some o) e = rw (cleared_done w o s rest r e)

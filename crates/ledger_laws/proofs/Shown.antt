@@ -12,8 +12,7 @@ use Rattle.ledger_rows.specs.Map.{at, Ascending}
 use Rattle.ledger_rows.specs.Layout.{room, second_wide, second_at, seconds_held, drafts_in, sequences_in, committed_in, steps_in}
 use Rattle.ledger_series.specs.Series.{mean_of, second_of, mean_of_drafts, mean_batch, mean_of_committed, up_to, front, figure_of}
 use Rattle.ledger_series.proofs.Fronts.{up_is}
-use Rattle.ledger.specs.declared.answer.Count.TheVariants.{Is}
-use Rattle.ledger.specs.declared.answer.Figure.TheVariants.{Mean}
+use Rattle.std.specs.Prelude.{Ok}
 use Rattle.ledger.specs.Calls.{emptied, series_read, day_figure}
 use Rattle.ledger_laws.specs.Model.{Sums, sums_at, Call, Standing, after, nothing_stands, InDomain}
 use Rattle.ledger_laws.specs.Encode.{seconds_given, workers_given, second_words, no_second, newest_of, encode}
@@ -40,9 +39,9 @@ pub record Shown (s : Standing) (rows : List (ℕ × Sums)) (ws : List ℕ) : Ty
   pub sums_are : (t : ℕ) → at ltb eqb t rows ≡ held_sums (sums_at t s.changes)
   -- the series is theirs
   pub series_is : (a : List ℕ) (b c d : List Float) → length rows ≤ length a → length rows ≤ length b → length rows ≤ length c → length rows ≤ length d
-      → series_read ws a b c d ≡ (Is (length rows), map (λ r. r.0) rows ++ drop (length rows) a, map draft_of rows ++ drop (length rows) b, map batch_of rows ++ drop (length rows) c, map mean_committed_of rows ++ drop (length rows) d)
+      → series_read ws a b c d ≡ (Ok (length rows), map (λ r. r.0) rows ++ drop (length rows) a, map draft_of rows ++ drop (length rows) b, map batch_of rows ++ drop (length rows) c, map mean_committed_of rows ++ drop (length rows) d)
   -- the day figure is theirs
-  pub figure_is : day_figure ws ≡ Mean (figure_of (map draft_of rows))
+  pub figure_is : day_figure ws ≡ Ok (figure_of (map draft_of rows))
 
 module _ (s : Standing) (rest : List ℕ) (r : Reached s) where
   abbrev rows : List (ℕ × Sums)

@@ -3,7 +3,7 @@
 use mathlib.Core.Path.{◌≡◌, refl, sym, ap, ◌∙◌}
 use mathlib.Core.List.{List, [], ◌∷◌, ◌++◌, append_assoc, append-nil, reverse, reverse-cons}
 use mathlib.Core.Option.{Option}
-use Prim.Native.Nat.{ℕ, zero, suc, ◌+◌, ◌*◌, ◌-◌, ◌≤◌, zero-le, suc-le-suc}
+use Prim.Native.Nat.{ℕ, zero, suc, ◌+◌, ◌*◌, ◌≤◌, zero-le, suc-le-suc}
 use native.Mathlib.Nat.{not-suc-le-zero, le_of_suc-le-suc, le_trans, min-le_left, min-le_right, mul-suc, mul-zero, add_comm}
 use native.Mathlib.Numerals.{sub-one}
 use native.Mathlib.Omega.{arith}
@@ -14,8 +14,9 @@ use Rattle.ledger_rows.specs.Map.{is_held}
 use Rattle.ledger_rows.specs.Table.{flat, pad}
 use Rattle.ledger_rows.proofs.Tests.{by_test}
 use Rattle.ledger_rows.proofs.Tables.{flat_append}
-use Rattle.ledger.specs.declared.answer.Answer.{Answer}
-use Rattle.ledger.specs.declared.answer.Stall.{Stall}
+use Rattle.std.specs.Prelude.{Result, Float}
+use Rattle.refusals.specs.declared.Refusal.{Refusal}
+use Rattle.refusals.specs.Refusals.{Judgement}
 use Rattle.ledger_rows.specs.Layout.{room, seconds_most, workers_most, changes_most, second_wide, worker_wide, change_wide, changes_from}
 use Rattle.ledger.specs.Calls.{or_else, zeros, emptied}
 use Rattle.ledger_laws.specs.Model.{Worker, Switching, Plan, Change, planned, decided, cleared, record_of, step_rule, worker_rule, Call, plan, decide, collect, back, Standing, refusal, stands, step, after, nothing_stands, Small, InDomain}
@@ -66,10 +67,10 @@ reached_back (c ∷ cs) (suc j) r = rw (lt-ltb 0 (suc j) (suc-le-suc zero-le), s
 
 one : (k : Call) (ks : List Call) (s : Standing) (rest : List ℕ) → InDomain (k ∷ ks) → Reached s → (made k (encode s rest) ≡ encode (step k s) rest) × Reached (step k s) × InDomain ks
 unfolding made InDomain
-one (plan p) ks s rest d r = (ap (λ (x : Answer × List ℕ). x.1) (plan_made p s rest d.0 r), reached_plan p s d.0 r, d.1)
-one (decide p w f) ks s rest d r = (ap (λ (x : Answer × List ℕ). x.1) (decide_made p w f s rest d.0 r), reached_decide p w f s d.0 r, d.1)
-one (collect w) ks s rest d r = (ap (λ (x : Stall × List ℕ). x.1) (collect_made w s rest r), reached_collect w s r, d)
-one back ks s rest d r = (ap (λ (x : Answer × List ℕ). x.1) (back_made s.changes s.left rest r.sound r.few r.there), reached_back s.changes s.left r, d)
+one (plan p) ks s rest d r = (ap (λ (x : Judgement × List ℕ). x.1) (plan_made p s rest d.0 r), reached_plan p s d.0 r, d.1)
+one (decide p w f) ks s rest d r = (ap (λ (x : Judgement × List ℕ). x.1) (decide_made p w f s rest d.0 r), reached_decide p w f s d.0 r, d.1)
+one (collect w) ks s rest d r = (ap (λ (x : Result Float Refusal × List ℕ). x.1) (collect_made w s rest r), reached_collect w s r, d)
+one back ks s rest d r = (ap (λ (x : Judgement × List ℕ). x.1) (back_made s.changes s.left rest r.sound r.few r.there), reached_back s.changes s.left r, d)
 
 -- the words after any calls are those of what stands after them
 pub afresh : (ks : List Call) (s : Standing) (rest : List ℕ) → InDomain ks → Reached s → (run ks (encode s rest) ≡ encode (after ks s) rest) × Reached (after ks s)

@@ -13,8 +13,11 @@ use Rattle.ledger_rows.specs.Layout.{room, seconds_most, workers_most, steps_mos
 use Rattle.ledger_seconds.specs.Seconds.{second_place, second_raised, second_inserted, step_added, second_lowered, step_removed}
 use Rattle.ledger_workers.specs.Workers.{worker_place, past_at, past_of, worker_stored, worker_inserted, worker_put, worker_taken, worker_dropped}
 use Rattle.ledger_changes.specs.Changes.{newest_at, step_back, record_back, worker_back}
-use Rattle.ledger_acts.specs.Acts.{place_refusal, step_refusal, worker_refusal}
-use Rattle.ledger.specs.Calls.{step_judged, worker_judged}
+use Rattle.refusals.specs.declared.Refusal.{Refusal}
+use Rattle.refusals.specs.declared.Refusal.TheVariants.{WorkerRoom, SecondRoom, StepRoom}
+use Rattle.refusals.specs.Refusals.{passed_if, number_of, number_in}
+use Rattle.ledger_acts.specs.Acts.{place_allows, step_allows, worker_allows, step_refusal, worker_refusal}
+use Rattle.ledger.specs.Calls.{step_allowed, worker_allowed, step_judged, worker_judged}
 
 module _ (ws : List ℕ) (p : Step) (b n : ℕ) where
   abbrev t : ℕ
@@ -47,18 +50,23 @@ module _ (ws : List ℕ) (p : Step) (b n : ℕ) where
   removed_last is z r4 h = rw (is, r4, le-ltb 1 z h)
 
 pub judged_step : (ws : List ℕ) (t : ℕ) → room ≤ length ws → step_judged ws t ≡ step_refusal ws t
-unfolding step_judged
+unfolding step_allowed
 judged_step ws t h = rw (le-ltb (length ws) room h)
 
 pub judged_worker : (ws : List ℕ) (a b : ℕ) → room ≤ length ws → worker_judged ws a b ≡ worker_refusal ws a b
-unfolding worker_judged
+unfolding worker_allowed
 judged_worker ws a b h = rw (le-ltb (length ws) room h)
+
+-- the number of what hangs on a test
+pub passed_number : (b : Bool) (x : Refusal) → number_in (passed_if b x) ≡ cond b 0 (number_of x)
+passed_number true x = refl
+passed_number false x = refl
 
 pub refused_step : (ws : List ℕ) (t b n : ℕ) (known : Bool) (z : ℕ) → second_place ws t ≡ record { row = b; rows = n; known = known } → (known ≡ true → get_or ws (second_at b + steps_in) 0 ≡ z)
     → step_refusal ws t ≡ cond known (cond (ltb z steps_most) 0 19) (cond (ltb n seconds_most) 0 18)
-unfolding step_refusal place_refusal
-refused_step ws t b n true z is r = rw (is, r refl)
-refused_step ws t b n false z is r = rw is
+unfolding step_allows place_allows
+refused_step ws t b n true z is r = rw (is, r refl) (passed_number (ltb z steps_most) StepRoom)
+refused_step ws t b n false z is r = rw is (passed_number (ltb n seconds_most) SecondRoom)
 
 module _ (ws : List ℕ) (a c b n : ℕ) where
   pub put_there : (width rounds stall : ℕ) → worker_place ws a c ≡ record { row = b; rows = n; known = true } → worker_put ws a c width rounds stall ≡ stored (worker_at b) (a ∷ c ∷ width ∷ rounds ∷ stall ∷ []) ws
@@ -84,8 +92,9 @@ module _ (ws : List ℕ) (a c b n : ℕ) where
   past_nowhere is = rw is
 
   pub refused_worker : (known : Bool) → worker_place ws a c ≡ record { row = b; rows = n; known = known } → worker_refusal ws a c ≡ cond known 0 (cond (ltb n workers_most) 0 17)
-  unfolding worker_refusal
-  refused_worker known is = rw is
+  unfolding worker_allows
+  refused_worker true is = rw is
+  refused_worker false is = rw is (passed_number (ltb n workers_most) WorkerRoom)
 
 -- ---- the newest change taken back
 

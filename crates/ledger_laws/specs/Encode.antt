@@ -1,5 +1,5 @@
 -- How what is held lies in the words. Every word is said, the free ones too, which are 0.
-use Rattle.std.specs.Prelude.{List, [], ◌∷◌, ◌++◌, reverse, ℕ, ◌+◌, ltb, eqb, length, take, drop}
+use Rattle.std.specs.Prelude.{List, [], ◌∷◌, ◌++◌, reverse, ℕ, ltb, eqb, length, take, drop}
 use Rattle.std.proofs.Math.Option.{Option, none, some}
 use Rattle.ledger_rows.specs.Map.{at, put_at}
 use Rattle.ledger_rows.specs.Table.{flat, pad}
