@@ -1,27 +1,17 @@
 // The batches that a depth is measured between.
 ghost use Rattle.std.specs.Prelude.{◌≡◌};
-ghost use Rattle.batch_ranges.specs.Range.{widened, highest};
+ghost use Rattle.batch_ranges.specs.Range.{widened};
 
-use crate::{BatchRange, MaxBatch};
+use crate::BatchRange;
 
 // The range with one batch more.
-pub fn widen(range: BatchRange, batch: u32) -> BatchRange
+#[tactic(auto, unfolding(crate::specs::Range::widened))]
+pub fn widen(range: Option<BatchRange>, batch: u32) -> Option<BatchRange>
     ensures { result ≡ widened range batch }
 {
-    match range {
-        BatchRange::Between(low, _) => BatchRange::Between(low, batch),
-        BatchRange::Unmeasured => BatchRange::Between(batch, batch),
-        BatchRange::Refused(refusal) => BatchRange::Refused(refusal),
-    }
-}
-
-// The last batch of a range.
-pub fn highest_of(range: BatchRange) -> MaxBatch
-    ensures { result ≡ highest range }
-{
-    match range {
-        BatchRange::Between(_, high) => MaxBatch::Batch(high),
-        BatchRange::Unmeasured => MaxBatch::Unmeasured,
-        BatchRange::Refused(refusal) => MaxBatch::Refused(refusal),
-    }
+    let low = match range {
+        Some(so_far) => so_far.low,
+        None => batch,
+    };
+    Some(BatchRange { low, high: batch })
 }

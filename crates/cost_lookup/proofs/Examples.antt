@@ -1,22 +1,19 @@
 -- Worked examples of the definitions, computed. Assumes nothing.
-use Rattle.std.proofs.Common.{◌≡◌, ℕ, List, [], ◌∷◌, get_or, refl}
+use Rattle.std.proofs.Common.{◌≡◌, ℕ, List, [], ◌∷◌, true, false, Some, None, Ok, Err, get_or, refl}
 use lib.Ieee.{Float, nan, binary64, of_bits, of_int, is_nan, lt, le, neg, add, sub, mul, div}
 use Rattle.float.specs.Floats.{f0, f1, f2, infinity, max_of, is_finite}
 use Rattle.float.specs.Range.{in_signed_range}
-use Rattle.step_times.specs.declared.Time.TheVariants.{Seconds, Unmeasured, Refused}
-use Rattle.batch_ranges.specs.declared.Measured.TheVariants.{Yes, No}
-use Rattle.batch_ranges.specs.declared.BatchRange.TheVariants.{Between}
-use Rattle.batch_ranges.specs.declared.MaxBatch.TheVariants.{Batch}
+use Rattle.refusals.specs.declared.Refusal.TheVariants.{Size, Input, ShortBuffer}
 use Rattle.cost_rows.specs.Table.{Row, zip, of_depth}
 use Rattle.cost_rows.specs.Order.{before, earlier, falls, ordered}
 use Rattle.cost_rows.specs.Lawful.{in_range, all_in_range, lawful}
 use Rattle.step_times.specs.Times.{step_time, time_of}
 use Rattle.nearest_row.specs.Lookup.{nearest, closest, closer, nearer}
-use Rattle.batch_ranges.specs.Range.{measures, has_draft, range_of, range_from, widened, highest, max_batch}
+use Rattle.batch_ranges.specs.Range.{measures, range_of, range_from, widened, highest, max_batch}
 use Rattle.step_times.specs.Between.{step_time_frac, asked, between, straight, deepest, deeper, shallowest, shallower}
 use Rattle.step_times.specs.Prices.{price_of, each, prices}
 use Rattle.nearest_row.specs.Place.{rows_before}
-use Rattle.cost_lookup.specs.Entry.{table_refusal, delta_refusal, step_time_at}
+use Rattle.cost_lookup.specs.Entry.{table_judged, delta_judged, step_time_at}
 
 abbrev row : ℕ → ℕ → Float → Row
 row g b x = record { depth = g; batch = b; seconds = x }
@@ -31,22 +28,22 @@ small = row 0 2 f1 ∷ row 0 4 f2 ∷ row 2 4 three ∷ row 2 4 f1 ∷ []
 -- ---- the lookup
 
 -- 3 is as near to 2 as to 4: the smaller
-tie_to_smaller : step_time 3 0 small ≡ Seconds f1
+tie_to_smaller : step_time 3 0 small ≡ Some f1
 unfolding step_time time_of nearest closest closer nearer of_depth
 tie_to_smaller = refl
 
 -- past the last batch the last
-past_the_last : step_time 4294967295 0 small ≡ Seconds f2
+past_the_last : step_time 4294967295 0 small ≡ Some f2
 unfolding step_time time_of nearest closest closer nearer of_depth
 past_the_last = refl
 
 -- of two rows with one batch the earlier
-earlier_row : step_time 9 2 small ≡ Seconds three
+earlier_row : step_time 9 2 small ≡ Some three
 unfolding step_time time_of nearest closest closer nearer of_depth
 earlier_row = refl
 
 -- no row at depth 1
-a_hole : step_time 2 1 small ≡ Unmeasured
+a_hole : step_time 2 1 small ≡ None
 unfolding step_time time_of nearest closest closer nearer of_depth
 a_hole = refl
 
@@ -56,97 +53,97 @@ unfolding rows_before before
 its_place = refl
 
 -- ---- what is measured
-measured_two : has_draft 2 small ≡ Yes
-unfolding has_draft measures
+measured_two : measures 2 small ≡ true
+unfolding measures
 measured_two = refl
 
-measured_one : has_draft 1 small ≡ No
-unfolding has_draft measures
+measured_one : measures 1 small ≡ false
+unfolding measures
 measured_one = refl
 
 -- the first and the last batch of a depth
-its_range : range_of 0 small ≡ Between 2 4
+its_range : range_of 0 small ≡ Some (record { low = 2; high = 4 })
 unfolding range_of range_from widened of_depth
 its_range = refl
 
-its_largest : max_batch 0 small ≡ Batch 4
+its_largest : max_batch 0 small ≡ Some 4
 unfolding max_batch highest range_of range_from widened of_depth
 its_largest = refl
 
 -- ---- between depths
 
 -- depth 1 lies half way between depths 0 and 2
-half_way : step_time_frac 4 f1 small ≡ Seconds (of_bits binary64 0x4004_0000_0000_0000)
+half_way : step_time_frac 4 f1 small ≡ Some (of_bits binary64 0x4004_0000_0000_0000)
 unfolding step_time_frac asked is_finite between straight deepest deeper shallowest shallower nearest closest closer nearer of_depth of_bits lt le of_int add mul div sub
 half_way = refl
 
 -- beyond the deepest there is nothing
-too_deep : step_time_frac 4 three small ≡ Unmeasured
+too_deep : step_time_frac 4 three small ≡ None
 unfolding step_time_frac asked is_finite between straight deepest deeper shallowest shallower nearest closest closer nearer of_depth of_bits lt le of_int add mul div sub
 too_deep = refl
 
 -- minus zero is zero
-minus_zero : step_time_frac 4 (of_bits binary64 0x8000_0000_0000_0000) small ≡ Seconds f2
+minus_zero : step_time_frac 4 (of_bits binary64 0x8000_0000_0000_0000) small ≡ Some f2
 unfolding step_time_frac asked is_finite between straight deepest deeper shallowest shallower nearest closest closer nearer of_depth of_bits lt le of_int add mul div sub
 minus_zero = refl
 
 -- no NaN
-not_a_number : step_time_frac 4 nan small ≡ Unmeasured
+not_a_number : step_time_frac 4 nan small ≡ None
 unfolding step_time_frac asked is_finite
 not_a_number = refl
 
 -- ---- what is refused
 
 -- equal batches are in order
-judged_good : table_refusal 4 (0 ∷ 0 ∷ 2 ∷ 2 ∷ []) (2 ∷ 4 ∷ 4 ∷ 4 ∷ []) (f1 ∷ f2 ∷ three ∷ f1 ∷ []) ≡ 0
-unfolding table_refusal lawful all_in_range in_range ordered falls earlier before zip lt le of_bits
+judged_good : table_judged 4 (0 ∷ 0 ∷ 2 ∷ 2 ∷ []) (2 ∷ 4 ∷ 4 ∷ 4 ∷ []) (f1 ∷ f2 ∷ three ∷ f1 ∷ []) ≡ Ok tt
+unfolding table_judged lawful all_in_range in_range ordered falls earlier before zip lt le of_bits
 judged_good = refl
 
 -- a batch that falls
-judged_bad : table_refusal 2 (0 ∷ 0 ∷ []) (4 ∷ 2 ∷ []) (f1 ∷ f1 ∷ []) ≡ 15
-unfolding table_refusal lawful all_in_range in_range ordered falls earlier before zip lt le of_bits
+judged_bad : table_judged 2 (0 ∷ 0 ∷ []) (4 ∷ 2 ∷ []) (f1 ∷ f1 ∷ []) ≡ Err Input
+unfolding table_judged lawful all_in_range in_range ordered falls earlier before zip lt le of_bits
 judged_bad = refl
 
 -- no NaN
-judged_nan : table_refusal 1 (0 ∷ []) (4 ∷ []) (nan ∷ []) ≡ 15
-unfolding table_refusal lawful all_in_range in_range ordered falls earlier before zip lt le of_bits
+judged_nan : table_judged 1 (0 ∷ []) (4 ∷ []) (nan ∷ []) ≡ Err Input
+unfolding table_judged lawful all_in_range in_range ordered falls earlier before zip lt le of_bits
 judged_nan = refl
 
 -- 10 ^ 17 is in range, the next float is not
-judged_largest : table_refusal 1 (0 ∷ []) (4 ∷ []) (of_bits binary64 0x4376_3457_85d8_a000 ∷ []) ≡ 0
-unfolding table_refusal lawful all_in_range in_range ordered falls earlier before zip lt le of_bits
+judged_largest : table_judged 1 (0 ∷ []) (4 ∷ []) (of_bits binary64 0x4376_3457_85d8_a000 ∷ []) ≡ Ok tt
+unfolding table_judged lawful all_in_range in_range ordered falls earlier before zip lt le of_bits
 judged_largest = refl
 
-judged_larger : table_refusal 1 (0 ∷ []) (4 ∷ []) (of_bits binary64 0x4376_3457_85d8_a001 ∷ []) ≡ 15
-unfolding table_refusal lawful all_in_range in_range ordered falls earlier before zip lt le of_bits
+judged_larger : table_judged 1 (0 ∷ []) (4 ∷ []) (of_bits binary64 0x4376_3457_85d8_a001 ∷ []) ≡ Err Input
+unfolding table_judged lawful all_in_range in_range ordered falls earlier before zip lt le of_bits
 judged_larger = refl
 
 -- a column that is too short, and too many rows before that
-too_short : table_refusal 2 (0 ∷ 0 ∷ []) (4 ∷ []) (f1 ∷ f1 ∷ []) ≡ 16
-unfolding table_refusal
+too_short : table_judged 2 (0 ∷ 0 ∷ []) (4 ∷ []) (f1 ∷ f1 ∷ []) ≡ Err ShortBuffer
+unfolding table_judged
 too_short = refl
 
-too_many : table_refusal 4097 [] [] [] ≡ 11
-unfolding table_refusal
+too_many : table_judged 4097 [] [] [] ≡ Err Size
+unfolding table_judged
 too_many = refl
 
-refused_time : step_time_at 4097 [] [] [] 1 0 ≡ Refused 11
-unfolding step_time_at table_refusal
+refused_time : step_time_at 4097 [] [] [] 1 0 ≡ Err Size
+unfolding step_time_at table_judged
 refused_time = refl
 
 -- an empty table is in range, and measures nothing
-empty_time : step_time_at 0 [] [] [] 1 0 ≡ Unmeasured
-unfolding step_time_at table_refusal lawful all_in_range ordered zip step_time time_of nearest closest of_depth
+empty_time : step_time_at 0 [] [] [] 1 0 ≡ Ok None
+unfolding step_time_at table_judged lawful all_in_range ordered zip step_time time_of nearest closest of_depth
 empty_time = refl
 
 -- ---- prices
 
 -- 10 ^ 9 below zero is in range, an infinity is not
-delta_least : delta_refusal (of_bits binary64 0xc1cd_cd65_0000_0000) ≡ 0
+delta_least : delta_judged (of_bits binary64 0xc1cd_cd65_0000_0000) ≡ Ok tt
 unfolding in_signed_range is_nan neg lt of_bits
 delta_least = refl
 
-delta_infinite : delta_refusal infinity ≡ 15
+delta_infinite : delta_judged infinity ≡ Err Input
 unfolding in_signed_range is_nan neg lt of_bits
 delta_infinite = refl
 

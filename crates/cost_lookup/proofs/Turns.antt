@@ -1,5 +1,5 @@
 -- A turn of each loop of the judgement. Assumes nothing.
-use Rattle.std.proofs.Common.{◌≡◌, ℕ, zero, suc, ◌+◌, ◌-◌, ◌<◌, ◌≤◌, Bool, true, false, cond, not, ◌&&◌, eqb, List, [], ◌∷◌, length, get_or, drop, sym, refl, ap, ◌∙◌, add-one, arith, drop_of_length-le, ne_eqb}
+use Rattle.std.proofs.Common.{◌≡◌, ℕ, zero, suc, ◌+◌, ◌-◌, ◌<◌, ◌≤◌, Bool, true, false, not, ◌&&◌, List, [], ◌∷◌, length, get_or, drop, sym, refl, ap, ◌∙◌, add-one, arith, drop_of_length-le}
 use lib.Ieee.{Float, nan}
 use Rattle.cost_rows.specs.Table.{Row, zip}
 use Rattle.cost_rows.specs.Order.{before, earlier, falls, ordered}
@@ -34,24 +34,14 @@ after_all d b s n [] e f h = refl
 after_all d b s zero (x ∷ z) e f h = absurd (let k : suc (length z) ≡ 0 = ap length (h (omega arith)) in omega arith)
 after_all d b s (suc n) (x ∷ z) e f h = sym (ap ordered (f (omega arith)) ∙ after_row (row_at d b s nan 0) z)
 
--- ---- bad rows, counted
-pub tally_turn : (whole rest later v w : Bool) (bad next i : ℕ) → cond (eqb bad 0) rest false ≡ whole → rest ≡ w && later → v ≡ w → next ≡ cond v bad (bad + 1) → bad ≤ i → (next ≤ i + 1) × (cond (eqb next 0) later false ≡ whole)
-tally_turn whole rest later true w bad next i e f g h k = rw (h) (omega arith, rw (f, ← g) at e)
-tally_turn whole rest later false w bad next i e f g h k = rw (h) (omega arith, none_left bad (rw (f, ← g) at e))
-  where
-    both_ways : (v : Bool) → cond v false false ≡ whole → false ≡ whole
-    both_ways true e = e
-    both_ways false e = e
+-- ---- whether all rows so far are good
+pub good_turn : (whole rest later good v w next : Bool) → (good && rest) ≡ whole → rest ≡ (w && later) → v ≡ w → next ≡ (good && v) → (next && later) ≡ whole
+good_turn whole rest later true v w next e f g h = rw (h, g, ← f) e
+good_turn whole rest later false v w next e f g h = rw h e
 
-    none_left : (bad : ℕ) → cond (eqb bad 0) false false ≡ whole → cond (eqb (bad + 1) 0) later false ≡ whole
-    none_left bad e = let f : eqb (bad + 1) 0 ≡ false = ne_eqb (bad + 1) 0 (λ k. omega arith) in rw f (both_ways (eqb bad 0) e)
-
-pub tally_end : (whole rest : Bool) (bad : ℕ) → cond (eqb bad 0) rest false ≡ whole → rest ≡ true → eqb bad 0 ≡ whole
-tally_end whole rest bad e f = go whole (eqb bad 0) (rw f at e)
-  where
-    go : (whole v : Bool) → cond v true false ≡ whole → v ≡ whole
-    go whole true e = e
-    go whole false e = e
+pub good_end : (whole rest good : Bool) → (good && rest) ≡ whole → rest ≡ true → good ≡ whole
+good_end whole rest true e f = sym f ∙ e
+good_end whole rest false e f = e
 
 module _ (n : ℕ) (d b : List ℕ) (s : List Float) (p : n ≤ length d) (q : n ≤ length b) (r : n ≤ length s) where
   module _ (i : ℕ) (h : i < n) where

@@ -8,11 +8,11 @@ use borrow.Author.Tests.{lt-ltb, eq-eqb, ltb-true, ltb-false, eqb-true, eqb-fals
 use lib.Dec.{T, ltb, eqb}
 use lib.ListN.{length, get_or}
 use lib.Ieee.{Float, nan}
+use Rattle.std.specs.Prelude.{None}
 use Rattle.laws.proofs.Both.{both}
-use Rattle.nearest_row.specs.declared.Nearest.TheVariants.{Measured, Unmeasured}
 use Rattle.cost_rows.specs.Table.{zip}
 use Rattle.cost_rows.specs.Order.{before, ordered}
-use Rattle.nearest_row.specs.Lookup.{apart, nearer, nearest}
+use Rattle.nearest_row.specs.Lookup.{apart, nearer, measured, nearest}
 use Rattle.nearest_row.specs.Place.{rows_before, behind_taken, front_taken, row_of}
 use Rattle.nearest_row.proofs.Ascending.{Upto, not_before, is_before, to_not_before, to_before, ascending}
 use Rattle.nearest_row.proofs.Placed.{place_most, below, above, goes_on, stops}
@@ -75,13 +75,13 @@ module _ (n : ℕ) (d b : List ℕ) (s : List Float) (p : n ≤ length d) (q : n
       let same : get_or d at 0 ≡ g = omega (arith, up.0, high.0) in
       (same, high.1 (sym same), up.1 (same ∙ sym k))
 
-  behind_row : at < n → get_or d at 0 ≡ g → (0 < at → get_or d (at - 1) 0 ≡ g → nearer batch (get_or b at 0) (get_or b (at - 1) 0) ≡ true) → Measured (get_or b at 0) (get_or s at nan) ≡ nearest batch g (zip n d b s)
+  behind_row : at < n → get_or d at 0 ≡ g → (0 < at → get_or d (at - 1) 0 ≡ g → nearer batch (get_or b at 0) (get_or b (at - 1) 0) ≡ true) → measured (get_or b at 0) (get_or s at nan) ≡ nearest batch g (zip n d b s)
   behind_row h k f =
       chosen n d b s p q r batch g at h k
       (λ j l m. let x = lead j l m in farther batch (get_or b at 0) (get_or b (at - 1) 0) (get_or b j 0) (follow at (omega arith) h k).1 x.2 x.1 (f (omega arith) x.0))
       (λ j l m t. let y = follow j (omega arith) m t in behind batch (get_or b at 0) (get_or b j 0) y.1 y.2)
 
-  none_row : (0 < at → get_or d (at - 1) 0 ≡ g → ⊥) → (at < n → get_or d at 0 ≡ g → ⊥) → Unmeasured ≡ nearest batch g (zip n d b s)
+  none_row : (0 < at → get_or d (at - 1) 0 ≡ g → ⊥) → (at < n → get_or d at 0 ≡ g → ⊥) → None ≡ nearest batch g (zip n d b s)
   none_row f k = none_chosen n d b s p q r batch g (λ j l m. go (ltb j at) refl j refl l m)
     where
       go : (v : Bool) {i : ℕ} → ltb i at ≡ v → (j : ℕ) → i ≡ j → j < n → get_or d j 0 ≡ g → ⊥
@@ -119,7 +119,7 @@ module _ (n : ℕ) (d b : List ℕ) (s : List Float) (p : n ≤ length d) (q : n
         let x = lead (at - 1) (omega arith) k in
         rw first_is.1 (beyond batch a (get_or b at 0) (get_or b j 0) x.2 y.1 y.2 (f (omega (arith, ltb-false j at t)) y.0))
 
-    front_row : (at < n → get_or d at 0 ≡ g → nearer batch (get_or b at 0) a ≡ false) → Measured (get_or b first 0) (get_or s first nan) ≡ nearest batch g (zip n d b s)
+    front_row : (at < n → get_or d at 0 ≡ g → nearer batch (get_or b at 0) a ≡ false) → measured (get_or b first 0) (get_or s first nan) ≡ nearest batch g (zip n d b s)
     front_row f = chosen n d b s p q r batch g first (omega (arith, at_most, first_most)) first_is.0 earlier_way (λ j l m w. later_way f (ltb j at) j refl l m w)
 
   -- ---- by the tests of the code
@@ -146,7 +146,7 @@ module _ (n : ℕ) (d b : List ℕ) (s : List Float) (p : n ≤ length d) (q : n
       go true false w x y z = absurd (subst T (sym z) tt)
       go false v w x y z = absurd (subst T (sym z) tt)
 
-  pub front_is_nearest : (first : ℕ) → front_taken batch g n d b at ≡ true → first ≡ rows_before (get_or d (at - 1) 0) (get_or b (at - 1) 0) (zip n d b s) → Measured (get_or b first 0) (get_or s first nan) ≡ nearest batch g (zip n d b s)
+  pub front_is_nearest : (first : ℕ) → front_taken batch g n d b at ≡ true → first ≡ rows_before (get_or d (at - 1) 0) (get_or b (at - 1) 0) (zip n d b s) → measured (get_or b first 0) (get_or s first nan) ≡ nearest batch g (zip n d b s)
   unfolding front_taken
   front_is_nearest first t u =
       let x = front_tests (ltb 0 at) (eqb (get_or d (at - 1) 0) g) (behind_taken batch g n d b at (get_or b (at - 1) 0)) t in
@@ -169,7 +169,7 @@ module _ (n : ℕ) (d b : List ℕ) (s : List Float) (p : n ≤ length d) (q : n
   unfolding row_of
   at_is_nearest t = go (ltb at n) (eqb (get_or d at 0) g) refl refl
     where
-      go : (u v : Bool) → ltb at n ≡ u → eqb (get_or d at 0) g ≡ v → cond (u && v) (Measured (get_or b at 0) (get_or s at nan)) Unmeasured ≡ nearest batch g (zip n d b s)
+      go : (u v : Bool) → ltb at n ≡ u → eqb (get_or d at 0) g ≡ v → cond (u && v) (measured (get_or b at 0) (get_or s at nan)) None ≡ nearest batch g (zip n d b s)
       go true true x y = behind_row (ltb-true at n x) (eqb-true _ _ y) (λ h k. behind_nearer (get_or b (at - 1) 0) (not_front t h k))
       go true false x y = none_row (λ h k. eqb-false _ _ y (behind_is (get_or b (at - 1) 0) (not_front t h k)).1) (λ h k. eqb-false _ _ y k)
       go false v x y = none_row (λ h k. omega (arith, ltb-false at n x, (behind_is (get_or b (at - 1) 0) (not_front t h k)).0)) (λ h k. omega (arith, ltb-false at n x))

@@ -5,7 +5,7 @@ pub mod inner;
 
 // The row nearest to a batch: its batch and its seconds.
 #[derive(Clone, Copy)]
-pub enum Nearest {
-    Measured(u32, f64),
-    Unmeasured,
+pub struct Nearest {
+    pub batch: u32,
+    pub seconds: f64,
 }

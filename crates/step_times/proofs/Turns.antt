@@ -8,7 +8,7 @@ use native.Mathlib.Omega.{arith}
 use lib.ListN.{length, get_or, take, drop, drop_of_length-le}
 use lib.Seq.{drop-cons, get_or-take, length-take-le}
 use lib.Ieee.{Float}
-use Rattle.step_times.specs.declared.Depth.{Depth}
+use Rattle.std.specs.Prelude.{Option}
 use Rattle.cost_rows.specs.Table.{zip}
 use Rattle.step_times.specs.Between.{deeper, deepest, shallower, shallowest}
 
@@ -21,25 +21,25 @@ depths_are (suc n) (x ∷ d) [] s p q r = absurd (not-suc-le-zero q)
 depths_are (suc n) (x ∷ d) (y ∷ b) [] p q r = absurd (not-suc-le-zero r)
 depths_are (suc n) (x ∷ d) (y ∷ b) (z ∷ s) p q r = ap (λ l. x ∷ l) (depths_are n d b s (le_of_suc-le-suc p) (le_of_suc-le-suc q) (le_of_suc-le-suc r))
 
-module _ (n : ℕ) (d : List ℕ) (p : n ≤ length d) (g : Float) (best : Depth) (i : ℕ) where
-  next_depth : i < n → drop i (take n d) ≡ get_or d i 0 ∷ drop (i + 1) (take n d)
-  next_depth h = drop-cons (take n d) i 0 (omega (arith, length-take-le n d p)) ∙ rw (add-one, get_or-take n d i 0 h)
+module _ (d : List ℕ) (g : Float) (best : Option ℕ) (i : ℕ) where
+  next_depth : i < length d → drop i d ≡ get_or d i 0 ∷ drop (i + 1) d
+  next_depth h = drop-cons d i 0 h ∙ rw (add-one) refl
 
-  no_depth : n ≤ i → drop i (take n d) ≡ []
-  no_depth h = drop_of_length-le (take n d) {i = i} (omega (arith, length-take-le n d p))
+  no_depth : length d ≤ i → drop i d ≡ []
+  no_depth h = drop_of_length-le d {i = i} h
 
-  pub deepest_turn : i < n → deepest g best (drop i (take n d)) ≡ deepest g (deeper g best (get_or d i 0)) (drop (i + 1) (take n d))
+  pub deepest_turn : i < length d → deepest g best (drop i d) ≡ deepest g (deeper g best (get_or d i 0)) (drop (i + 1) d)
   unfolding deepest
   deepest_turn h = rw (next_depth h)
 
-  pub deepest_end : n ≤ i → deepest g best (drop i (take n d)) ≡ best
+  pub deepest_end : length d ≤ i → deepest g best (drop i d) ≡ best
   unfolding deepest
   deepest_end h = rw (no_depth h)
 
-  pub shallowest_turn : i < n → shallowest g best (drop i (take n d)) ≡ shallowest g (shallower g best (get_or d i 0)) (drop (i + 1) (take n d))
+  pub shallowest_turn : i < length d → shallowest g best (drop i d) ≡ shallowest g (shallower g best (get_or d i 0)) (drop (i + 1) d)
   unfolding shallowest
   shallowest_turn h = rw (next_depth h)
 
-  pub shallowest_end : n ≤ i → shallowest g best (drop i (take n d)) ≡ best
+  pub shallowest_end : length d ≤ i → shallowest g best (drop i d) ≡ best
   unfolding shallowest
   shallowest_end h = rw (no_depth h)

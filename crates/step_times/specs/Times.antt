@@ -1,16 +1,13 @@
 -- The seconds of a step at a measured depth. Assumes nothing.
-use Rattle.std.specs.Prelude.{ℕ, List}
+use Rattle.std.specs.Prelude.{ℕ, List, Float, Option, Some, None}
 use Rattle.nearest_row.specs.declared.Nearest.{Nearest}
-use Rattle.nearest_row.specs.declared.Nearest.TheVariants.{Measured, Unmeasured}
-use Rattle.step_times.specs.declared.Time.{Time}
-use Rattle.step_times.specs.declared.Time.TheVariants.{Seconds, Unmeasured as NoTime}
 use Rattle.cost_rows.specs.Table.{Row}
 use Rattle.nearest_row.specs.Lookup.{nearest}
 
-unfoldable pub time_of : Nearest → Time
-time_of (Measured b s) = Seconds s
-time_of Unmeasured = NoTime
+unfoldable pub time_of : Option Nearest → Option Float
+time_of (Some near) = Some near.seconds
+time_of None = None
 
-unfoldable pub step_time : ℕ → ℕ → List Row → Time
+unfoldable pub step_time : ℕ → ℕ → List Row → Option Float
 unfolding nearest time_of
 step_time batch g t = time_of (nearest batch g t)

@@ -6,10 +6,11 @@ ghost use Rattle.step_times.specs.Times.{step_time};
 ghost use Rattle.step_times.specs.Between.{step_time_frac};
 ghost use Rattle.step_times.specs.Prices.{prices};
 
-use crate::{Depth, Time, frac, prices};
-use nearest_row::{Nearest, inner};
+use crate::{frac, prices};
+use nearest_row::inner;
 
-// The measured seconds of a step: exact depth, nearest batch, ties to the smaller batch, then the earlier row.
+// The measured seconds of a step, where its depth is measured: exact depth, nearest batch, ties to the smaller batch, then the earlier row.
+#[tactic(auto, unfolding(crate::specs::Times::step_time, crate::specs::Times::time_of))]
 pub fn step_time(
     depths: &[u32],
     batches: &[u32],
@@ -17,15 +18,13 @@ pub fn step_time(
     rows: usize,
     batch: u32,
     depth: u32,
-) -> Time
+) -> Option<f64>
     requires rows_in_bounds { (rows ≤ length depths.now) × (rows ≤ length batches.now) × (rows ≤ length seconds.now) }
     requires seconds_value { ordered (zip rows depths.now batches.now seconds.now) ≡ true }
     ensures { result ≡ step_time batch depth (zip rows depths.now batches.now seconds.now) }
 {
-    match inner::nearest_of(depths, batches, seconds, rows, batch, depth) {
-        Nearest::Measured(_, s) => Time::Seconds(s),
-        Nearest::Unmeasured => Time::Unmeasured,
-    }
+    let near = inner::nearest_of(depths, batches, seconds, rows, batch, depth)?;
+    Some(near.seconds)
 }
 
 // The seconds at a depth between the measured ones; nothing outside them.
@@ -36,20 +35,17 @@ pub fn step_time_frac(
     rows: usize,
     batch: u32,
     g: f64,
-) -> Time
+) -> Option<f64>
     requires rows_in_bounds { (rows ≤ length depths.now) × (rows ≤ length batches.now) × (rows ≤ length seconds.now) }
     requires seconds_value { ordered (zip rows depths.now batches.now seconds.now) ≡ true }
     ensures { result ≡ step_time_frac batch g (zip rows depths.now batches.now seconds.now) }
 {
     if !frac::is_asked(g) {
-        return Time::Unmeasured;
+        return None;
     }
-    let Depth::At(low) = frac::deepest_of(depths, rows, g) else {
-        return Time::Unmeasured;
-    };
-    let Depth::At(high) = frac::shallowest_of(depths, rows, g) else {
-        return Time::Unmeasured;
-    };
+    let measured = &depths[..rows];
+    let low = frac::deepest_of(measured, g)?;
+    let high = frac::shallowest_of(measured, g)?;
     let at_low = inner::nearest_of(depths, batches, seconds, rows, batch, low);
     let at_high = inner::nearest_of(depths, batches, seconds, rows, batch, high);
     frac::straight_between(g, low, high, at_low, at_high)
@@ -71,14 +67,12 @@ pub fn prices_to(
     ensures { out.new ≡ take (length out.old) (prices batch kv_delta (zip rows depths.now batches.now seconds.now)) }
 {
     let mut from = 0usize;
-    let mut g = 0usize;
-    while g < out.len() {
+    for (g, price) in out.iter_mut().enumerate() {
         let depth = g as u32;
         let at = inner::place_from(depths, batches, seconds, rows, from, depth, batch);
         let near = inner::beside(depths, batches, seconds, rows, at, batch, depth);
-        out[g] = prices::price_of(kv_delta, near);
+        *price = prices::price_of(kv_delta, near);
         from = at;
-        g += 1;
     }
 }
 

@@ -1,10 +1,6 @@
 -- `lent::are_short` meets its contract: where the patterns so far are small, what was passed is in range. Assumes nothing.
-use Rattle.std.proofs.Common.{◌+◌, ◌-◌, ◌≤◌, length}
 use Rattle.cost_lookup.proofs.Small.{Last, Front, Back}
 use Rattle.cost_lookup.proofs.lent.are_short.Given as goal
 
 abbrev pub invariant-loop-i : goal.invariant-loop-i
-invariant-loop-i l = (l.i ≤ l.quarter) × (l.n ≤ length l.seconds) × (l.quarter + l.quarter + l.quarter + l.quarter ≤ l.n) × (l.n ≤ l.quarter + l.quarter + l.quarter + l.quarter + 3) × Last l.seconds l.n l.low × Front l.seconds l.quarter l.low l.i × Back l.seconds l.quarter l.high l.i
-
-abbrev pub decreases-loop-i : goal.decreases-loop-i
-decreases-loop-i l = l.quarter - l.i
+invariant-loop-i l = Last l.seconds l.n l.low × Front l.seconds l.quarter l.low l.i × Back l.seconds l.quarter l.high l.i

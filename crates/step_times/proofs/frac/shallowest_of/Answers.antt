@@ -1,12 +1,10 @@
 -- `frac::shallowest_of` meets its contract. Assumes nothing.
-use mathlib.Core.Path.{sym, ◌∙◌}
-use Prim.Native.Nat.{◌-◌}
-use native.Mathlib.Omega.{arith}
+use Rattle.std.proofs.Common.{sym, ◌∙◌, arith}
 use Rattle.step_times.proofs.Turns.{shallowest_turn, shallowest_end}
 use Rattle.step_times.proofs.frac.shallowest_of.Goals as goal
 
-pub loop-i-preserved : goal.loop-i-preserved
-loop-i-preserved c = (omega arith, rw c.shallower_of-best.ensures (sym (shallowest_turn c.args.n c.args.depths.now c.requires c.args.g c.loop-i.best c.loop-i.i c.loop-i-test.true) ∙ c.loop-i.invariant.1))
+pub loop-depth-preserved : goal.loop-depth-preserved
+loop-depth-preserved c = rw c.shallower_of-best.ensures (sym (shallowest_turn c.args.depths.now c.args.g c.loop-depth.best c.loop-depth.depth-index (omega arith)) ∙ c.loop-depth.invariant)
 
 pub returns : goal.returns
-returns c = sym (shallowest_end c.args.n c.args.depths.now c.requires c.args.g c.loop-i.best c.loop-i.i c.loop-i-test.false) ∙ c.loop-i.invariant.1
+returns c = sym (shallowest_end c.args.depths.now c.args.g c.loop-depth.best c.loop-depth.depth-index (omega arith)) ∙ c.loop-depth.invariant

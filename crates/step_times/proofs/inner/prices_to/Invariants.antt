@@ -1,10 +1,7 @@
 -- `inner::prices_to` meets its contract. Assumes nothing.
 use mathlib.Core.Path.{◌≡◌}
-use mathlib.Core.Bool.{true}
-use Prim.Native.Nat.{◌≤◌, ◌-◌}
-use lib.ListN.{length}
+use Prim.Native.Nat.{◌≤◌}
 use Rattle.cost_rows.specs.Table.{zip}
-use Rattle.cost_rows.specs.Order.{ordered}
 use Rattle.nearest_row.specs.Lookup.{nearest}
 use Rattle.nearest_row.specs.Place.{rows_before}
 use Rattle.step_times.specs.Prices.{price_of}
@@ -12,7 +9,4 @@ use Rattle.step_times.proofs.Filled.{fill}
 use Rattle.step_times.proofs.inner.prices_to.Given as goal
 
 abbrev pub invariant-loop-g : goal.invariant-loop-g
-invariant-loop-g l = (l.g ≤ length l.initial.out) × (l.rows ≤ length l.depths) × (l.rows ≤ length l.batches) × (l.rows ≤ length l.seconds) × (ordered (zip l.rows l.depths l.batches l.seconds) ≡ true) × (l.from ≤ rows_before l.g l.batch (zip l.rows l.depths l.batches l.seconds)) × (length l.out ≡ length l.initial.out) × (l.out ≡ fill (λ j. price_of l.kv_delta (nearest l.batch j (zip l.rows l.depths l.batches l.seconds))) l.g 0 l.initial.out)
-
-abbrev pub decreases-loop-g : goal.decreases-loop-g
-decreases-loop-g l = length l.initial.out - l.g
+invariant-loop-g l = (l.from ≤ rows_before l.g l.batch (zip l.rows l.depths l.batches l.seconds)) × (l.out ≡ fill (λ j. price_of l.kv_delta (nearest l.batch j (zip l.rows l.depths l.batches l.seconds))) l.g 0 l.initial.out)
