@@ -4,7 +4,7 @@ use mathlib.Core.Bool.{Bool, true, false, ◌&&◌, cond}
 use mathlib.Core.List.{List, [], ◌∷◌}
 use Prim.Native.Nat.{ℕ, ◌+◌, ◌≤◌, ◌<◌}
 use native.Mathlib.Omega.{arith}
-use borrow.Author.Tests.{le-leb, lt-leb, leb-true, le-ltb, eq-eqb, ne_eqb}
+use borrow.Author.Tests.{le-leb, lt-leb, leb-true, eq-eqb, ne_eqb}
 use lib.Dec.{leb, eqb}
 use lib.ListN.{length, take}
 use lib.Ieee.{Float, binary64, of_bits}
@@ -15,7 +15,10 @@ use Rattle.speculative.specs.Drafter.{all_loaded, million}
 use Rattle.chains.specs.Tests.{all_of}
 use Rattle.cost_rows.specs.Table.{most, zip}
 use Rattle.cost_rows.specs.Lawful.{lawful}
-use Rattle.cost_lookup.specs.Entry.{room, table_refusal}
+use Rattle.std.specs.Prelude.{is_ok}
+use Rattle.refusals.specs.declared.Refusal.TheVariants.{Input}
+use Rattle.refusals.specs.Refusals.{Judgement, passed_if}
+use Rattle.cost_lookup.specs.Entry.{room, table_judged}
 use Rattle.switch_settings.specs.Switch.{is_unconstrained}
 use Rattle.switch_settings.specs.declared.SwitchConstraints.{SwitchConstraints}
 use Rattle.switching.specs.Deciding.{is_record}
@@ -34,8 +37,8 @@ pub loaded_tested : (r : Bool) (part loaded : List Float) (n : ℕ) → part ≡
 loaded_tested r part loaded n e f = f ∙ all_loaded_lem part ∙ ap all_loaded e
 
 -- ---- a table whose sizes are judged
-pub table_tested : (rows : ℕ) (d b : List ℕ) (s : List Float) (r : ℕ) → columns_fit Table rows d b s ≡ true → r ≡ table_refusal rows d b s → eqb r 0 ≡ lawful (zip rows d b s)
-unfolding table_refusal
+pub table_tested : (rows : ℕ) (d b : List ℕ) (s : List Float) (r : Judgement) → columns_fit Table rows d b s ≡ true → r ≡ table_judged rows d b s → is_ok r ≡ lawful (zip rows d b s)
+unfolding table_judged
 table_tested rows d b s r h e =
     let p = both (leb rows 4096) (leb rows (length d) && (leb rows (length b) && leb rows (length s))) h in
     let q = both (leb rows (length d)) (leb rows (length b) && leb rows (length s)) p.1 in
@@ -44,10 +47,10 @@ table_tested rows d b s r h e =
     let x = leb-true rows (length d) q.0 in
     let y = leb-true rows (length b) t.0 in
     let z = leb-true rows (length s) t.1 in
-    let known : r ≡ cond (lawful (zip rows d b s)) 0 15 = e ∙ rw (le-ltb most rows few, le-ltb (room d b s) rows (omega arith)) in
-    ap (λ (n : ℕ). eqb n 0) known ∙ go (lawful (zip rows d b s))
+    let known : r ≡ passed_if (lawful (zip rows d b s)) Input = e ∙ rw (le-leb rows most few, le-leb rows (room d b s) (omega arith)) in
+    ap is_ok known ∙ go (lawful (zip rows d b s))
   where
-    go : (l : Bool) → eqb (cond l 0 15) 0 ≡ l
+    go : (l : Bool) → is_ok (passed_if l Input) ≡ l
     go true = refl
     go false = refl
 

@@ -46,7 +46,7 @@ pub fn are_priced(
 {
     match source {
         Source::Roofline => chain_tests::are_prices(first_entries(roofline, gamma)),
-        Source::Table => cost_lookup::table_refusal(depths, batches, seconds, rows) == 0,
+        Source::Table => cost_lookup::judge_table(depths, batches, seconds, rows).is_ok(),
     }
 }
 

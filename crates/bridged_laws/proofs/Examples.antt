@@ -22,7 +22,7 @@ use Rattle.cost_rows.specs.Order.{before, earlier, falls, ordered}
 use Rattle.cost_rows.specs.Lawful.{in_range, all_in_range, lawful}
 use Rattle.nearest_row.specs.Lookup.{nearer, closer, closest, nearest}
 use Rattle.batch_ranges.specs.Range.{measures}
-use Rattle.step_times.specs.declared.Time.TheVariants.{Seconds}
+use Rattle.std.specs.Prelude.{Some}
 use Rattle.step_times.specs.Prices.{each, price_of, prices}
 use Rattle.step_times.specs.Between as looked
 use Rattle.step_times.specs.Between.{deeper, deepest, shallower, shallowest, between, asked, step_time_frac}
@@ -63,7 +63,7 @@ four_above : le (mean_width 4 1 (whole 3)) (whole 4) ≡ true
 unfolding clamp_to le lt eq of_bits of_int sub add neg div
 four_above = refl
 
-looked_up : step_time_frac 1 (mean_width 4 1 (whole 3)) (two 4) ≡ Seconds (f 0x3ff2_0000_0000_0000)
+looked_up : step_time_frac 1 (mean_width 4 1 (whole 3)) (two 4) ≡ Some (f 0x3ff2_0000_0000_0000)
 unfolding f two step_time_frac asked between looked.straight deepest deeper shallowest shallower nearest closest closer nearer of_depth clamp_to is_finite le lt eq of_bits of_int add sub mul div neg
 looked_up = refl
 
@@ -71,7 +71,7 @@ by_law : bridged_cost (take 5 (prices 1 f0 (two 4))) 1 (whole 3) ≡ f 0x3ff2_00
 by_law = is_the_lookup 4 1 (omega arith) (two 4) is_lawful are_held (whole 3) is_number 4 (omega arith) has_four four_above ∙ ap or_infinity looked_up
 
 -- ---- measured at depths 0 and 8 with gamma 4: the lookup finds 1.0625 seconds, but the curve ends at 4, and the bridged price is +infinity
-past_gamma_found : step_time_frac 1 (mean_width 4 1 (whole 3)) (two 8) ≡ Seconds (f 0x3ff1_0000_0000_0000)
+past_gamma_found : step_time_frac 1 (mean_width 4 1 (whole 3)) (two 8) ≡ Some (f 0x3ff1_0000_0000_0000)
 unfolding f two step_time_frac asked between looked.straight deepest deeper shallowest shallower nearest closest closer nearer of_depth clamp_to is_finite le lt eq of_bits of_int add sub mul div neg
 past_gamma_found = refl
 

@@ -16,13 +16,9 @@ use Rattle.speculative.specs.Drafter.{billion}
 use Rattle.cost_rows.specs.Table.{Row}
 use Rattle.cost_rows.specs.Lawful.{in_range, lawful}
 use Rattle.nearest_row.specs.declared.Nearest.{Nearest}
-use Rattle.nearest_row.specs.declared.Nearest.TheVariants.{Measured, Unmeasured}
+use Rattle.std.specs.Prelude.{Option, Some, None}
 use Rattle.nearest_row.specs.Lookup.{nearest}
 use Rattle.batch_ranges.specs.Range.{measures}
-use Rattle.step_times.specs.declared.Depth.{Depth}
-use Rattle.step_times.specs.declared.Depth.TheVariants.{At, Nowhere}
-use Rattle.step_times.specs.declared.Time.{Time}
-use Rattle.step_times.specs.declared.Time.TheVariants.{Unmeasured as NoTime}
 use Rattle.step_times.specs.Prices.{price_of, prices}
 use Rattle.step_times.specs.Between as looked
 use Rattle.step_times.specs.Between.{depths_of, deepest, shallowest, asked, step_time_frac}
@@ -44,23 +40,23 @@ abbrev is_time : Float → Bool
 is_time x = in_range x && fits binary64 x
 
 -- ---- both are straight between the same two
-same_straight : (w : Float) (low high : ℕ) (a b : Nearest) (x y : Float) → passes is_time a ≡ true → passes is_time b ≡ true → x ≡ price_of f0 a → y ≡ price_of f0 b
+same_straight : (w : Float) (low high : ℕ) (a b : Option Nearest) (x y : Float) → passes is_time a ≡ true → passes is_time b ≡ true → x ≡ price_of f0 a → y ≡ price_of f0 b
     → straight w low high x y ≡ or_infinity (looked.straight w low high a b)
 unfolding straight looked.straight price_of
-same_straight w low high Unmeasured b x y p q e f = clash p
-same_straight w low high (Measured i u) Unmeasured x y p q e f = clash q
-same_straight w low high (Measured i u) (Measured j v) x y p q e f =
-    let P = both (in_range u) (fits binary64 u) p in
-    let Q = both (in_range v) (fits binary64 v) q in
-    let xs : x ≡ u = e ∙ price_of_time u P.0 P.1 in
-    let ys : y ≡ v = f ∙ price_of_time v Q.0 Q.1 in
-    rw (xs, ys, sized_finite (10 ^ 17) u (seconds_sized u P.0), sized_finite (10 ^ 17) v (seconds_sized v Q.0))
+same_straight w low high None b x y p q e f = clash p
+same_straight w low high (Some i) None x y p q e f = clash q
+same_straight w low high (Some i) (Some j) x y p q e f =
+    let P = both (in_range i.seconds) (fits binary64 i.seconds) p in
+    let Q = both (in_range j.seconds) (fits binary64 j.seconds) q in
+    let xs : x ≡ i.seconds = e ∙ price_of_time i.seconds P.0 P.1 in
+    let ys : y ≡ j.seconds = f ∙ price_of_time j.seconds Q.0 Q.1 in
+    rw (xs, ys, sized_finite (10 ^ 17) i.seconds (seconds_sized i.seconds P.0), sized_finite (10 ^ 17) j.seconds (seconds_sized j.seconds Q.0))
 
-no_answer : (w : Float) (low high : ℕ) (a b : Nearest) → passes is_time a ≡ true → passes is_time b ≡ true → looked.straight w low high a b ≡ NoTime → ⊥
+no_answer : (w : Float) (low high : ℕ) (a b : Option Nearest) → passes is_time a ≡ true → passes is_time b ≡ true → looked.straight w low high a b ≡ None → ⊥
 unfolding looked.straight
-no_answer w low high Unmeasured b p q h = clash p
-no_answer w low high (Measured i u) Unmeasured p q h = clash q
-no_answer w low high (Measured i u) (Measured j v) p q h = let z : ◌≡◌ {A = ℕ} 0 1 = cc in omega arith
+no_answer w low high None b p q h = clash p
+no_answer w low high (Some i) None p q h = clash q
+no_answer w low high (Some i) (Some j) p q h = let z : ◌≡◌ {A = ℕ} 0 1 = cc in omega arith
 
 no_delta : in_signed_range (neg billion) billion f0 ≡ true
 unfolding in_signed_range of_bits neg lt is_nan
@@ -112,17 +108,17 @@ module _ (gamma n : ℕ) (small : gamma ≤ 64) (table : List Row) (law : lawful
     is_asked =
         rw (sized_finite gamma width (width_sized gamma n t small number), clamp_low (less (over t (whole n)) f1) f0 (whole gamma) (not_below_zero gamma (omega arith)))
 
-    abbrev found : Time
-    found = looked.between n width table (deepest width Nowhere (depths_of table)) (shallowest width Nowhere (depths_of table))
+    abbrev found : Option Float
+    found = looked.between n width table (deepest width None (depths_of table)) (shallowest width None (depths_of table))
 
     lookup_is : step_time_frac n width table ≡ found
     unfolding step_time_frac
     lookup_is = rw is_asked
 
-    low_is : Low (λ k. measures k table) foot (deepest width Nowhere (depths_of table))
+    low_is : Low (λ k. measures k table) foot (deepest width None (depths_of table))
     low_is = deepest_low width foot at.at_or_below table
 
-    high_is : High (λ k. measures k table) top (shallowest width Nowhere (depths_of table))
+    high_is : High (λ k. measures k table) top (shallowest width None (depths_of table))
     high_is = shallowest_high width top at.at_or_above table
 
     -- ---- outside
@@ -139,54 +135,54 @@ module _ (gamma n : ℕ) (small : gamma ≤ 64) (table : List Row) (law : lawful
         (ap (λ (b : Bool). is_measured free_curve (lower free_curve foot) && b) h ∙ and_false (is_measured free_curve (lower free_curve foot)))
 
     -- ---- the lookup's two depths are the curve's, where the upper one is on the curve
-    abbrev OnCurve : Depth → Type 0
-    OnCurve Nowhere = Unit {0}
-    OnCurve (At m) = m ≤ gamma
+    abbrev OnCurve : Option ℕ → Type 0
+    OnCurve None = Unit {0}
+    OnCurve (Some m) = m ≤ gamma
 
-    by_depths : (d u : Depth) → Low (λ k. measures k table) foot d → High (λ k. measures k table) top u → OnCurve u
+    by_depths : (d u : Option ℕ) → Low (λ k. measures k table) foot d → High (λ k. measures k table) top u → OnCurve u
         → bridged_cost free_curve n t ≡ or_infinity (looked.between n width table d u)
     unfolding looked.between
-    by_depths Nowhere u l h e = hole_below (lower_none free_curve (λ k. measures k table) some same foot (omega (arith, last, at.foot_low)) l)
-    by_depths (At low) Nowhere l h e =
+    by_depths None u l h e = hole_below (lower_none free_curve (λ k. measures k table) some same foot (omega (arith, last, at.foot_low)) l)
+    by_depths (Some low) None l h e =
         hole_above (upper_none free_curve (λ k. measures k table) some same top (omega (arith, last, at.top_low)) (λ k m a b. h k m a))
-    by_depths (At low) (At high) l h e =
+    by_depths (Some low) (Some high) l h e =
         let is_low : lower free_curve foot ≡ low = lower_at free_curve (λ k. measures k table) some same foot low (omega (arith, last, at.foot_low)) l in
         let is_high : upper free_curve top ≡ high = upper_at free_curve (λ k. measures k table) some same top high (omega (arith, last, e)) h in
         bridged_at ∙ ap (λ (x : ℕ). bridged free_curve width x (upper free_curve top)) is_low ∙ ap (λ (y : ℕ). bridged free_curve width low y) is_high
         ∙ both_there width low high (omega (arith, l.1, at.foot_low)) e l.0 h.0
 
-    answered : (low high : ℕ) → measures low table ≡ true → measures high table ≡ true → looked.between n width table (At low) (At high) ≡ NoTime → ⊥
+    answered : (low high : ℕ) → measures low table ≡ true → measures high table ≡ true → looked.between n width table (Some low) (Some high) ≡ None → ⊥
     unfolding looked.between
     answered low high l h e = no_answer width low high (nearest n low table) (nearest n high table) (is_time_lem low l) (is_time_lem high h) e
 
-    by_lookup : OnCurve (shallowest width Nowhere (depths_of table)) → bridged_cost free_curve n t ≡ or_infinity (step_time_frac n width table)
-    by_lookup e = by_depths (deepest width Nowhere (depths_of table)) (shallowest width Nowhere (depths_of table)) low_is high_is e ∙ ap or_infinity (sym lookup_is)
+    by_lookup : OnCurve (shallowest width None (depths_of table)) → bridged_cost free_curve n t ≡ or_infinity (step_time_frac n width table)
+    by_lookup e = by_depths (deepest width None (depths_of table)) (shallowest width None (depths_of table)) low_is high_is e ∙ ap or_infinity (sym lookup_is)
 
     -- a depth at or above the mean width is measured, and no deeper than gamma: the bridged price is what the fractional lookup finds at the mean width; and
     -- where the lookup finds nothing, since no depth at or below the mean width is measured, it is +infinity
     pub is_the_lookup : (k : ℕ) → k ≤ gamma → measures k table ≡ true → le width (whole k) ≡ true → bridged_cost free_curve n t ≡ or_infinity (step_time_frac n width table)
-    is_the_lookup k l m h = by_lookup (go (shallowest width Nowhere (depths_of table)) high_is)
+    is_the_lookup k l m h = by_lookup (go (shallowest width None (depths_of table)) high_is)
       where
-        go : (u : Depth) → High (λ i. measures i table) top u → OnCurve u
-        go Nowhere q = tt
-        go (At high) q = omega (arith, q.2 k m (leb-true top k (sym (at.at_or_above k) ∙ h)))
+        go : (u : Option ℕ) → High (λ i. measures i table) top u → OnCurve u
+        go None q = tt
+        go (Some high) q = omega (arith, q.2 k m (leb-true top k (sym (at.at_or_above k) ∙ h)))
 
     -- a table without rows past gamma: so at every mean width
     pub is_the_lookup_within : ((k : ℕ) → measures k table ≡ true → k ≤ gamma) → bridged_cost free_curve n t ≡ or_infinity (step_time_frac n width table)
-    is_the_lookup_within most = by_lookup (go (shallowest width Nowhere (depths_of table)) high_is)
+    is_the_lookup_within most = by_lookup (go (shallowest width None (depths_of table)) high_is)
       where
-        go : (u : Depth) → High (λ i. measures i table) top u → OnCurve u
-        go Nowhere q = tt
-        go (At high) q = most high q.0
+        go : (u : Option ℕ) → High (λ i. measures i table) top u → OnCurve u
+        go None q = tt
+        go (Some high) q = most high q.0
 
     -- where the lookup finds nothing, the bridged price is +infinity
-    pub nothing_found : step_time_frac n width table ≡ NoTime → bridged_cost free_curve n t ≡ infinity
-    nothing_found h = go (deepest width Nowhere (depths_of table)) (shallowest width Nowhere (depths_of table)) low_is high_is (sym lookup_is ∙ h)
+    pub nothing_found : step_time_frac n width table ≡ None → bridged_cost free_curve n t ≡ infinity
+    nothing_found h = go (deepest width None (depths_of table)) (shallowest width None (depths_of table)) low_is high_is (sym lookup_is ∙ h)
       where
-        go : (d u : Depth) → Low (λ k. measures k table) foot d → High (λ k. measures k table) top u → looked.between n width table d u ≡ NoTime → bridged_cost free_curve n t ≡ infinity
-        go Nowhere u l i e = hole_below (lower_none free_curve (λ k. measures k table) some same foot (omega (arith, last, at.foot_low)) l)
-        go (At low) Nowhere l i e = hole_above (upper_none free_curve (λ k. measures k table) some same top (omega (arith, last, at.top_low)) (λ k m a b. i k m a))
-        go (At low) (At high) l i e = absurd (answered low high l.0 i.0 e)
+        go : (d u : Option ℕ) → Low (λ k. measures k table) foot d → High (λ k. measures k table) top u → looked.between n width table d u ≡ None → bridged_cost free_curve n t ≡ infinity
+        go None u l i e = hole_below (lower_none free_curve (λ k. measures k table) some same foot (omega (arith, last, at.foot_low)) l)
+        go (Some low) None l i e = hole_above (upper_none free_curve (λ k. measures k table) some same top (omega (arith, last, at.top_low)) (λ k m a b. i k m a))
+        go (Some low) (Some high) l i e = absurd (answered low high l.0 i.0 e)
 
     -- no depth from the mean width to gamma is measured: it is +infinity, though the lookup may find a depth past gamma
     pub nothing_above : ((k : ℕ) → k ≤ gamma → measures k table ≡ true → le width (whole k) ≡ false) → bridged_cost free_curve n t ≡ infinity

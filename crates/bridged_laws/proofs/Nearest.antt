@@ -15,29 +15,28 @@ use Rattle.float.specs.Floats.{whole}
 use Rattle.float.proofs.Classes.{clash}
 use Rattle.cost_rows.specs.Table.{Row}
 use Rattle.batch_ranges.specs.Range.{measures}
-use Rattle.step_times.specs.declared.Depth.{Depth}
-use Rattle.step_times.specs.declared.Depth.TheVariants.{At, Nowhere}
+use Rattle.std.specs.Prelude.{Option, Some, None}
 use Rattle.step_times.specs.Between.{deeper, deepest, shallower, shallowest, depths_of}
 use Rattle.verify_prices.specs.Bridge.{is_measured, lower, upper_of, upper}
 use Rattle.verify_prices.proofs.Spans.{lower_le, upper_ge, upper_le}
 
 -- ---- among the numbers that pass a test: the largest up to s, and the smallest from r on
-abbrev pub Low : (ℕ → Bool) → ℕ → Depth → Type 0
-Low q s Nowhere = (k : ℕ) → q k ≡ true → k ≤ s → ⊥
-Low q s (At m) = (q m ≡ true) × (m ≤ s) × ((k : ℕ) → q k ≡ true → k ≤ s → k ≤ m)
+abbrev pub Low : (ℕ → Bool) → ℕ → Option ℕ → Type 0
+Low q s None = (k : ℕ) → q k ≡ true → k ≤ s → ⊥
+Low q s (Some m) = (q m ≡ true) × (m ≤ s) × ((k : ℕ) → q k ≡ true → k ≤ s → k ≤ m)
 
-abbrev pub High : (ℕ → Bool) → ℕ → Depth → Type 0
-High q r Nowhere = (k : ℕ) → q k ≡ true → r ≤ k → ⊥
-High q r (At m) = (q m ≡ true) × (r ≤ m) × ((k : ℕ) → q k ≡ true → r ≤ k → m ≤ k)
+abbrev pub High : (ℕ → Bool) → ℕ → Option ℕ → Type 0
+High q r None = (k : ℕ) → q k ≡ true → r ≤ k → ⊥
+High q r (Some m) = (q m ≡ true) × (r ≤ m) × ((k : ℕ) → q k ≡ true → r ≤ k → m ≤ k)
 
 module _ (q p : ℕ → Bool) (same : (k : ℕ) → q k ≡ p k) where
-  same_low : (s : ℕ) (d : Depth) → Low q s d → Low p s d
-  same_low s Nowhere h = λ k e l. h k (same k ∙ e) l
-  same_low s (At m) h = (sym (same m) ∙ h.0, h.1, λ k e l. h.2 k (same k ∙ e) l)
+  same_low : (s : ℕ) (d : Option ℕ) → Low q s d → Low p s d
+  same_low s None h = λ k e l. h k (same k ∙ e) l
+  same_low s (Some m) h = (sym (same m) ∙ h.0, h.1, λ k e l. h.2 k (same k ∙ e) l)
 
-  same_high : (r : ℕ) (d : Depth) → High q r d → High p r d
-  same_high r Nowhere h = λ k e l. h k (same k ∙ e) l
-  same_high r (At m) h = (sym (same m) ∙ h.0, h.1, λ k e l. h.2 k (same k ∙ e) l)
+  same_high : (r : ℕ) (d : Option ℕ) → High q r d → High p r d
+  same_high r None h = λ k e l. h k (same k ∙ e) l
+  same_high r (Some m) h = (sym (same m) ∙ h.0, h.1, λ k e l. h.2 k (same k ∙ e) l)
 
 or_either : (a b : Bool) → (a || b) ≡ true → (a ≡ true) ⊎ (b ≡ true)
 or_either true b h = inl refl
@@ -72,20 +71,20 @@ itself q n = or_second (q n) (eqb n n) (eq-eqb n n refl)
 
 -- ---- one depth more
 module _ (w : Float) (s : ℕ) (law : (k : ℕ) → le (whole k) w ≡ leb k s) (q : ℕ → Bool) (n : ℕ) where
-  deeper_low : (best : Depth) → Low q s best → Low (With q n) s (deeper w best n)
+  deeper_low : (best : Option ℕ) → Low q s best → Low (With q n) s (deeper w best n)
   unfolding deeper
-  deeper_low Nowhere h = subst (λ (b : Bool). Low (With q n) s (cond b (At n) Nowhere)) (sym (law n)) (go (leb n s) refl)
+  deeper_low None h = subst (λ (b : Bool). Low (With q n) s (cond b (Some n) None)) (sym (law n)) (go (leb n s) refl)
     where
-      go : (b : Bool) → leb n s ≡ b → Low (With q n) s (cond b (At n) Nowhere)
+      go : (b : Bool) → leb n s ≡ b → Low (With q n) s (cond b (Some n) None)
       go true e = (itself q n, leb-true n s e, of_each q n (λ k. k ≤ s → k ≤ n) (λ k a l. absurd (h k a l)) (λ l. omega arith))
       go false e = of_each q n (λ k. k ≤ s → ⊥) h (λ l. let f = leb-false n s e in omega arith)
-  deeper_low (At m) h = subst (λ (b : Bool). Low (With q n) s (cond b (At (max m n)) (At m))) (sym (law n)) (go (leb n s) refl)
+  deeper_low (Some m) h = subst (λ (b : Bool). Low (With q n) s (cond b (Some (max m n)) (Some m))) (sym (law n)) (go (leb n s) refl)
     where
       either : (b : Bool) → leb m n ≡ b → With q n (max m n) ≡ true
       either true e = let l = leb-true m n e in let is : n ≡ max m n = omega arith in ap (With q n) (sym is) ∙ itself q n
       either false e = let l = leb-false m n e in let is : m ≡ max m n = omega arith in ap (With q n) (sym is) ∙ or_first (q m) (eqb n m) h.0
 
-      go : (b : Bool) → leb n s ≡ b → Low (With q n) s (cond b (At (max m n)) (At m))
+      go : (b : Bool) → leb n s ≡ b → Low (With q n) s (cond b (Some (max m n)) (Some m))
       go true e =
           let l = leb-true n s e in
           (either (leb m n) refl, omega (arith, h.1), of_each q n (λ k. k ≤ s → k ≤ max m n) (λ k a f. omega (arith, h.2 k a f)) (λ f. omega arith))
@@ -93,20 +92,20 @@ module _ (w : Float) (s : ℕ) (law : (k : ℕ) → le (whole k) w ≡ leb k s) 
           (or_first (q m) (eqb n m) h.0, h.1, of_each q n (λ k. k ≤ s → k ≤ m) h.2 (λ f. let l = leb-false n s e in absurd (let z : ⊥ = omega arith in z)))
 
 module _ (w : Float) (r : ℕ) (law : (k : ℕ) → le w (whole k) ≡ leb r k) (q : ℕ → Bool) (n : ℕ) where
-  shallower_high : (best : Depth) → High q r best → High (With q n) r (shallower w best n)
+  shallower_high : (best : Option ℕ) → High q r best → High (With q n) r (shallower w best n)
   unfolding shallower
-  shallower_high Nowhere h = subst (λ (b : Bool). High (With q n) r (cond b (At n) Nowhere)) (sym (law n)) (go (leb r n) refl)
+  shallower_high None h = subst (λ (b : Bool). High (With q n) r (cond b (Some n) None)) (sym (law n)) (go (leb r n) refl)
     where
-      go : (b : Bool) → leb r n ≡ b → High (With q n) r (cond b (At n) Nowhere)
+      go : (b : Bool) → leb r n ≡ b → High (With q n) r (cond b (Some n) None)
       go true e = (itself q n, leb-true r n e, of_each q n (λ k. r ≤ k → n ≤ k) (λ k a l. absurd (h k a l)) (λ l. omega arith))
       go false e = of_each q n (λ k. r ≤ k → ⊥) h (λ l. let f = leb-false r n e in omega arith)
-  shallower_high (At m) h = subst (λ (b : Bool). High (With q n) r (cond b (At (min m n)) (At m))) (sym (law n)) (go (leb r n) refl)
+  shallower_high (Some m) h = subst (λ (b : Bool). High (With q n) r (cond b (Some (min m n)) (Some m))) (sym (law n)) (go (leb r n) refl)
     where
       either : (b : Bool) → leb m n ≡ b → With q n (min m n) ≡ true
       either true e = let l = leb-true m n e in let is : m ≡ min m n = omega arith in ap (With q n) (sym is) ∙ or_first (q m) (eqb n m) h.0
       either false e = let l = leb-false m n e in let is : n ≡ min m n = omega arith in ap (With q n) (sym is) ∙ itself q n
 
-      go : (b : Bool) → leb r n ≡ b → High (With q n) r (cond b (At (min m n)) (At m))
+      go : (b : Bool) → leb r n ≡ b → High (With q n) r (cond b (Some (min m n)) (Some m))
       go true e =
           let l = leb-true r n e in
           (either (leb m n) refl, omega (arith, h.1), of_each q n (λ k. r ≤ k → min m n ≤ k) (λ k a f. omega (arith, h.2 k a f)) (λ f. omega arith))
@@ -115,7 +114,7 @@ module _ (w : Float) (r : ℕ) (law : (k : ℕ) → le w (whole k) ≡ leb r k) 
 
 -- ---- all rows
 module _ (w : Float) (s : ℕ) (law : (k : ℕ) → le (whole k) w ≡ leb k s) where
-  deepest_from : (t : List Row) (q : ℕ → Bool) (best : Depth) → Low q s best → Low (λ k. q k || measures k t) s (deepest w best (depths_of t))
+  deepest_from : (t : List Row) (q : ℕ → Bool) (best : Option ℕ) → Low q s best → Low (λ k. q k || measures k t) s (deepest w best (depths_of t))
   unfolding deepest measures
   deepest_from [] q best h = same_low q (λ k. q k || false) (λ k. or_none (q k)) s best h
   deepest_from (x ∷ t) q best h =
@@ -123,11 +122,11 @@ module _ (w : Float) (s : ℕ) (law : (k : ℕ) → le (whole k) w ≡ leb k s) 
       (deepest_from t (With q x.depth) (deeper w best x.depth) (deeper_low w s law q x.depth best h))
 
   -- the deepest measured depth at or below the width
-  pub deepest_low : (t : List Row) → Low (λ k. measures k t) s (deepest w Nowhere (depths_of t))
-  deepest_low t = deepest_from t (λ k. false) Nowhere (λ k e l. clash e)
+  pub deepest_low : (t : List Row) → Low (λ k. measures k t) s (deepest w None (depths_of t))
+  deepest_low t = deepest_from t (λ k. false) None (λ k e l. clash e)
 
 module _ (w : Float) (r : ℕ) (law : (k : ℕ) → le w (whole k) ≡ leb r k) where
-  shallowest_from : (t : List Row) (q : ℕ → Bool) (best : Depth) → High q r best → High (λ k. q k || measures k t) r (shallowest w best (depths_of t))
+  shallowest_from : (t : List Row) (q : ℕ → Bool) (best : Option ℕ) → High q r best → High (λ k. q k || measures k t) r (shallowest w best (depths_of t))
   unfolding shallowest measures
   shallowest_from [] q best h = same_high q (λ k. q k || false) (λ k. or_none (q k)) r best h
   shallowest_from (x ∷ t) q best h =
@@ -135,8 +134,8 @@ module _ (w : Float) (r : ℕ) (law : (k : ℕ) → le w (whole k) ≡ leb r k) 
       (shallowest_from t (With q x.depth) (shallower w best x.depth) (shallower_high w r law q x.depth best h))
 
   -- the shallowest measured depth at or above the width
-  pub shallowest_high : (t : List Row) → High (λ k. measures k t) r (shallowest w Nowhere (depths_of t))
-  shallowest_high t = shallowest_from t (λ k. false) Nowhere (λ k e l. clash e)
+  pub shallowest_high : (t : List Row) → High (λ k. measures k t) r (shallowest w None (depths_of t))
+  shallowest_high t = shallowest_from t (λ k. false) None (λ k e l. clash e)
 
 -- ---- on a curve
 module _ (curve : List Float) where
@@ -164,15 +163,15 @@ module _ (curve : List Float) where
     not_so true f = absurd (f refl)
     not_so false f = refl
 
-    pub lower_at : (s m : ℕ) → s ≤ length curve - 1 → Low q s (At m) → lower curve s ≡ m
+    pub lower_at : (s m : ℕ) → s ≤ length curve - 1 → Low q s (Some m) → lower curve s ≡ m
     lower_at s m l h =
         lower_by s m h.1 (same m (omega (arith, h.1)) ∙ h.0)
         (λ g a b. same g (omega arith) ∙ not_so (q g) (λ e. omega (arith, h.2 g e b)))
 
-    pub lower_none : (s : ℕ) → s ≤ length curve - 1 → Low q s Nowhere → is_measured curve (lower curve s) ≡ false
+    pub lower_none : (s : ℕ) → s ≤ length curve - 1 → Low q s None → is_measured curve (lower curve s) ≡ false
     lower_none s l h = same (lower curve s) (omega (arith, lower_le curve s)) ∙ not_so (q (lower curve s)) (λ e. h (lower curve s) e (lower_le curve s))
 
-    pub upper_at : (r m : ℕ) → m ≤ length curve - 1 → High q r (At m) → upper curve r ≡ m
+    pub upper_at : (r m : ℕ) → m ≤ length curve - 1 → High q r (Some m) → upper curve r ≡ m
     upper_at r m l h =
         upper_by (length curve - 1 - r) r m h.1 (omega (arith, h.1)) (same m l ∙ h.0)
         (λ k a b. same k (omega arith) ∙ not_so (q k) (λ e. omega (arith, h.2 k e a)))

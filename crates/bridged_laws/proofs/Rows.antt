@@ -5,34 +5,34 @@ use mathlib.Core.List.{List, [], ◌∷◌}
 use Prim.Native.Nat.{ℕ}
 use lib.Dec.{eqb}
 use lib.Ieee.{Float}
+use Rattle.std.specs.Prelude.{Option, Some, None}
 use Rattle.laws.proofs.Both.{both}
 use Rattle.float.proofs.Classes.{clash}
 use Rattle.cost_rows.specs.Table.{Row, of_depth}
 use Rattle.cost_rows.specs.Order.{ordered}
 use Rattle.cost_rows.specs.Lawful.{in_range, all_in_range, lawful}
 use Rattle.nearest_row.specs.declared.Nearest.{Nearest}
-use Rattle.nearest_row.specs.declared.Nearest.TheVariants.{Measured, Unmeasured}
-use Rattle.nearest_row.specs.Lookup.{nearer, closer, closest, nearest}
+use Rattle.nearest_row.specs.Lookup.{nearer, measured, closer, closest, nearest}
 use Rattle.batch_ranges.specs.Range.{measures}
 use Rattle.bridged_laws.specs.Rows.{every_row}
 
 -- ---- the row that is nearest passes what every row passes
 module _ (p : Float → Bool) where
   -- a row is there, and its seconds pass
-  abbrev pub passes : Nearest → Bool
-  passes Unmeasured = false
-  passes (Measured b s) = p s
+  abbrev pub passes : Option Nearest → Bool
+  passes None = false
+  passes (Some near) = p near.seconds
 
-  closer_passes : (batch : ℕ) (best : Nearest) (a : ℕ) (x : Float) → passes best ≡ true → p x ≡ true → passes (closer batch best a x) ≡ true
+  closer_passes : (batch : ℕ) (best : Option Nearest) (a : ℕ) (x : Float) → passes best ≡ true → p x ≡ true → passes (closer batch best a x) ≡ true
   unfolding closer
-  closer_passes batch Unmeasured a x h k = k
-  closer_passes batch (Measured b s) a x h k = go (nearer batch a b)
+  closer_passes batch None a x h k = k
+  closer_passes batch (Some near) a x h k = go (nearer batch a near.batch)
     where
-      go : (c : Bool) → passes (cond c (Measured a x) (Measured b s)) ≡ true
+      go : (c : Bool) → passes (cond c (measured a x) (Some near)) ≡ true
       go true = k
       go false = h
 
-  closest_passes : (batch : ℕ) (best : Nearest) (t : List Row) → passes best ≡ true → every_row p t ≡ true → passes (closest batch best t) ≡ true
+  closest_passes : (batch : ℕ) (best : Option Nearest) (t : List Row) → passes best ≡ true → every_row p t ≡ true → passes (closest batch best t) ≡ true
   unfolding closest
   closest_passes batch best [] h k = h
   closest_passes batch best (r ∷ t) h k =
@@ -48,9 +48,9 @@ module _ (p : Float → Bool) where
       go true k l = rw k l
       go false k l = l
 
-  some_passes : (batch : ℕ) (r : Row) (t : List Row) → every_row p (r ∷ t) ≡ true → passes (closest batch Unmeasured (r ∷ t)) ≡ true
+  some_passes : (batch : ℕ) (r : Row) (t : List Row) → every_row p (r ∷ t) ≡ true → passes (closest batch None (r ∷ t)) ≡ true
   unfolding closest closer
-  some_passes batch r t h = let u = both (p r.seconds) (every_row p t) h in closest_passes batch (Measured r.batch r.seconds) t u.0 u.1
+  some_passes batch r t h = let u = both (p r.seconds) (every_row p t) h in closest_passes batch (measured r.batch r.seconds) t u.0 u.1
 
 -- ---- rows of a depth are there exactly where the table measures it
 none_there : (g : ℕ) (t : List Row) → measures g t ≡ false → of_depth g t ≡ []
@@ -62,28 +62,28 @@ none_there g (r ∷ t) h = go (eqb r.depth g) h (λ k. none_there g t k)
     go true k later = clash (sym k)
     go false k later = later k
 
-Some : List Row → Type 0
-Some [] = ⊥
-Some (r ∷ t) = Unit {0}
+There : List Row → Type 0
+There [] = ⊥
+There (r ∷ t) = Unit {0}
 
-some_there : (g : ℕ) (t : List Row) → measures g t ≡ true → Some (of_depth g t)
-unfolding measures of_depth Some
+some_there : (g : ℕ) (t : List Row) → measures g t ≡ true → There (of_depth g t)
+unfolding measures of_depth There
 some_there g [] h = clash h
 some_there g (r ∷ t) h = go (eqb r.depth g) h (λ k. some_there g t k)
   where
-    go : (b : Bool) → (b || measures g t) ≡ true → (measures g t ≡ true → Some (of_depth g t)) → Some (cond b (r ∷ of_depth g t) (of_depth g t))
+    go : (b : Bool) → (b || measures g t) ≡ true → (measures g t ≡ true → There (of_depth g t)) → There (cond b (r ∷ of_depth g t) (of_depth g t))
     go true k later = tt
     go false k later = later k
 
-pub nearest_none : (batch g : ℕ) (t : List Row) → measures g t ≡ false → nearest batch g t ≡ Unmeasured
+pub nearest_none : (batch g : ℕ) (t : List Row) → measures g t ≡ false → nearest batch g t ≡ None
 unfolding nearest closest
-nearest_none batch g t h = ap (closest batch Unmeasured) (none_there g t h)
+nearest_none batch g t h = ap (closest batch None) (none_there g t h)
 
 pub nearest_passes : (p : Float → Bool) (batch g : ℕ) (t : List Row) → every_row p t ≡ true → measures g t ≡ true → passes p (nearest batch g t) ≡ true
-unfolding nearest Some
+unfolding nearest There
 nearest_passes p batch g t all h = go (of_depth g t) (some_there g t h) (of_depth_passes p g t all)
   where
-    go : (rows : List Row) → Some rows → every_row p rows ≡ true → passes p (closest batch Unmeasured rows) ≡ true
+    go : (rows : List Row) → There rows → every_row p rows ≡ true → passes p (closest batch None rows) ≡ true
     go [] k all = absurd k
     go (r ∷ rows) k all = some_passes p batch r rows all
 

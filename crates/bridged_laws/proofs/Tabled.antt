@@ -23,7 +23,7 @@ use Rattle.speculative.specs.Drafter.{billion}
 use Rattle.cost_rows.specs.Table.{Row}
 use Rattle.cost_rows.specs.Lawful.{largest, in_range, lawful}
 use Rattle.nearest_row.specs.declared.Nearest.{Nearest}
-use Rattle.nearest_row.specs.declared.Nearest.TheVariants.{Measured, Unmeasured}
+use Rattle.std.specs.Prelude.{Option, Some, None}
 use Rattle.nearest_row.specs.Lookup.{nearest}
 use Rattle.step_times.specs.Prices.{quarter, price_of, each, prices}
 use Rattle.batch_ranges.specs.Range.{measures}
@@ -118,9 +118,9 @@ module _ (batch : ℕ) (kv : Float) (k : in_signed_range (neg billion) billion k
     unfolding price_of
     by_row p Q all f = go (nearest batch g t) (nearest_passes p batch g t all h)
       where
-        go : (best : Nearest) → passes p best ≡ true → Q (price_of kv best)
-        go Unmeasured e = clash e
-        go (Measured b x) e = f x e
+        go : (best : Option Nearest) → passes p best ≡ true → Q (price_of kv best)
+        go None e = clash e
+        go (Some near) e = f near.seconds e
 
     row_within : Within 57 (price_at g)
     row_within = by_row in_range (Within 57) (lawful_every t law) (dearer_within kv k)

@@ -1,9 +1,7 @@
 -- Words for what a table's rows have, and for a lookup's answer as a price. Assumes nothing.
-use Rattle.std.specs.Prelude.{Bool, true, ◌&&◌, List, [], ◌∷◌, Float}
+use Rattle.std.specs.Prelude.{Bool, true, ◌&&◌, List, [], ◌∷◌, Float, Option, Some, None}
 use Rattle.float.specs.Floats.{infinity}
 use Rattle.cost_rows.specs.Table.{Row}
-use Rattle.step_times.specs.declared.Time.{Time}
-use Rattle.step_times.specs.declared.Time.TheVariants.{Seconds, Unmeasured, Refused}
 
 -- the seconds of every row pass a test
 abbrev pub every_row : (Float → Bool) → List Row → Bool
@@ -11,7 +9,6 @@ every_row p [] = true
 every_row p (r ∷ t) = p r.seconds && every_row p t
 
 -- the seconds that a lookup found, and +infinity where it found none
-abbrev pub or_infinity : Time → Float
-or_infinity (Seconds x) = x
-or_infinity Unmeasured = infinity
-or_infinity (Refused refusal) = infinity
+abbrev pub or_infinity : Option Float → Float
+or_infinity (Some x) = x
+or_infinity None = infinity

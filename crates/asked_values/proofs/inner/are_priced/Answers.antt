@@ -22,7 +22,7 @@ returns-in-Table c =
     let a = c.args in
     of_case (λ (s : Source). prices_valued s a.gamma a.roofline.now (zip a.rows a.depths.now a.batches.now a.seconds.now)) _ _ _ c.in-Table.is
     (
-    table_tested a.rows a.depths.now a.batches.now a.seconds.now _
+    c.is_ok.ensures.value ∙ table_tested a.rows a.depths.now a.batches.now a.seconds.now _
     (sym (ap (λ (s : Source). columns_fit s a.rows a.depths.now a.batches.now a.seconds.now) c.in-Table.is) ∙ c.requires)
-    c.table_refusal.ensures
+    c.judge_table.ensures
     )
