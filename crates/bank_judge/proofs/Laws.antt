@@ -6,21 +6,26 @@ use Prim.Native.Nat.{ℕ, zero, suc, ◌+◌, ◌-◌, ◌≤◌, ◌<◌, zero-
 use native.Mathlib.Nat.{not-suc-le-zero, le_trans, le-suc}
 use native.Mathlib.Numerals.{add-one}
 use native.Mathlib.Omega.{arith}
-use borrow.Author.Tests.{le-leb, lt-leb, lt-ltb, le-ltb, eq-eqb, ne_eqb, eqb-true, eqb-false, leb-true, ltb-true}
+use borrow.Author.Tests.{eq-eqb, ne_eqb, eqb-true, eqb-false, leb-true, ltb-true}
 use lib.Dec.{leb, ltb, eqb}
 use lib.ListN.{length, get_or, take, drop}
-use Rattle.laws.proofs.Both.{and_false}
+use Rattle.std.specs.Prelude.{⊤, Result, Ok, Err}
+use Rattle.refusals.specs.declared.Refusal.{Refusal}
+use Rattle.refusals.specs.declared.Refusal.TheVariants.{NotAscii, EmptyText, WrongHeader, NoRows, Size, ShortBuffer}
+use Rattle.refusals.specs.declared.RefusedRow.{RefusedRow}
+use Rattle.refusals.specs.Refusals.{Judgement, passed_if, and_then}
 use Rattle.blocks.specs.Blocks.{find, all_ascii}
 use Rattle.text.specs.Lines.{starts_with, lines}
 use Rattle.text.specs.Fields.{fields, same_text}
 use Rattle.text.proofs.Walk.{drop_more}
-use Rattle.first_field.specs.Front.{field_length}
-use Rattle.numeral.specs.Spelling.{whole_of}
-use Rattle.decimals.specs.Decimals.{decimal_of, decimal_refusal}
-use Rattle.numeral.specs.Refusals.{whole_refusal}
-use Rattle.bank_judge.specs.Judge.{commits_name, depth_of, header_refusal, or_else, signals_refusal, row_refusal, unless, judge_rows, room_for, judge_lines, judged}
-use Rattle.bank_judge.specs.declared.Answer.{Answer}
-use Rattle.bank_judge.specs.declared.Answer.TheVariants.{Bank, Refused}
+use Rattle.first_field.specs.Front.{field_length, length_judged}
+use Rattle.decimals.specs.Decimals.{Decimal, decimal_of, without_value}
+use Rattle.bank_judge.specs.Judge.{Answer, sized, refused_in, commits_name, depth_of, header_judged, signals_judged, row_judged, round_judged, at_row, unless, judge_rows, room_for, judge_lines, judged}
+
+-- ---- a refusal is no answer
+
+pub no_answer : {A B : Type 0} (b : B) (a : A) → ◌≡◌ {A = Result A B} (Err b) (Ok a) → ⊥
+no_answer b a e = let z : ◌≡◌ {A = ℕ} 0 1 = cc in omega arith
 
 -- ---- the depth
 
@@ -57,108 +62,88 @@ field_found (b ∷ s) = go (eqb b 44) (field_found s)
     go false e = ap suc e
 
 -- a field that is passed over
-pub signal_skipped : (k : ℕ) (f : List ℕ) (fs : List (List ℕ)) → 0 < k → signals_refusal (drop k (f ∷ fs)) ≡ signals_refusal (drop (k - 1) fs)
-signal_skipped k f fs h = ap signals_refusal (drop_more k f fs h)
+pub signal_skipped : (k : ℕ) (f : List ℕ) (fs : List (List ℕ)) → 0 < k → signals_judged (drop k (f ∷ fs)) ≡ signals_judged (drop (k - 1) fs)
+signal_skipped k f fs h = ap signals_judged (drop_more k f fs h)
 
--- a field that is judged
-pub signal_refused : (k m : ℕ) (f : List ℕ) (fs : List (List ℕ)) → k ≤ 0 → m ≡ decimal_refusal (decimal_of f) → (m ≡ 0 → ⊥) → signals_refusal (drop k (f ∷ fs)) ≡ m
-signal_refused zero m f fs h e n = ap (λ (x : ℕ). or_else x (signals_refusal fs)) (sym e) ∙ rw (ne_eqb m 0 n)
-signal_refused (suc k) m f fs h e n = absurd (not-suc-le-zero h)
+-- what the judge of a first field says of its decimal
+pub length_passed : (d : Decimal) (l n : ℕ) → length_judged d l ≡ Ok n → (without_value d ≡ Ok tt) × (n ≡ l)
+length_passed (Ok v) l n e = let same : n ≡ l = cc in (refl, same)
+length_passed (Err refusal) l n e = absurd (no_answer refusal n e)
 
-pub signal_passed : (k m : ℕ) (f : List ℕ) (fs : List (List ℕ)) → k ≤ 0 → m ≡ decimal_refusal (decimal_of f) → m ≡ 0 → signals_refusal (drop k (f ∷ fs)) ≡ signals_refusal (drop k fs)
-signal_passed zero m f fs h e z = ap (λ (x : ℕ). or_else x (signals_refusal fs)) (sym e ∙ z)
-signal_passed (suc k) m f fs h e z = absurd (not-suc-le-zero h)
+pub length_refused : (d : Decimal) (l : ℕ) (r : Refusal) → length_judged d l ≡ Err r → without_value d ≡ Err r
+length_refused (Ok v) l r e = absurd (no_answer r l (sym e))
+length_refused (Err refusal) l r e = let same : refusal ≡ r = cc in ap Err same
 
--- ---- a row
+-- a field that is judged: m is its judgement
+pub signal_refused : (k : ℕ) (m : Judgement) (r : Refusal) (f : List ℕ) (fs : List (List ℕ)) → k ≤ 0 → m ≡ without_value (decimal_of f) → m ≡ Err r → signals_judged (drop k (f ∷ fs)) ≡ Err r
+signal_refused zero m r f fs h e n = ap (λ (j : Judgement). and_then j (signals_judged fs)) (sym e ∙ n)
+signal_refused (suc k) m r f fs h e n = absurd (not-suc-le-zero h)
 
-module _ (width skip : ℕ) (row : List (List ℕ)) where
-  pub row_width : (length row ≡ width → ⊥) → row_refusal width skip row ≡ 4
-  unfolding row_refusal
-  row_width n = rw (ne_eqb (length row) width n)
+pub signal_passed : (k : ℕ) (m : Judgement) (x : ⊤) (f : List ℕ) (fs : List (List ℕ)) → k ≤ 0 → m ≡ without_value (decimal_of f) → m ≡ Ok x → signals_judged (drop k (f ∷ fs)) ≡ signals_judged (drop k fs)
+signal_passed zero m x f fs h e n = ap (λ (j : Judgement). and_then j (signals_judged fs)) (sym e ∙ n)
+signal_passed (suc k) m x f fs h e n = absurd (not-suc-le-zero h)
 
-  pub row_whole : (m : ℕ) → length row ≡ width → m ≡ whole_refusal (whole_of (get_or row 0 [])) → (m ≡ 0 → ⊥) → row_refusal width skip row ≡ m
-  unfolding row_refusal
-  row_whole m l e n = rw (eq-eqb (length row) width l) (ap (λ (x : ℕ). or_else x (signals_refusal (drop skip row))) (sym e) ∙ rw (ne_eqb m 0 n))
+-- ---- the rows: m is what is said of the first line
 
-  pub row_signals : (m : ℕ) → length row ≡ width → m ≡ whole_refusal (whole_of (get_or row 0 [])) → m ≡ 0 → row_refusal width skip row ≡ signals_refusal (drop skip row)
-  unfolding row_refusal
-  row_signals m l e z = rw (eq-eqb (length row) width l) (ap (λ (x : ℕ). or_else x (signals_refusal (drop skip row))) (sym e ∙ z))
+pub row_passed : (j : Judgement) (row : ℕ) (x : ⊤) → at_row j row ≡ Ok x → j ≡ Ok tt
+row_passed (Ok y) row x e = refl
+row_passed (Err refusal) row x e = absurd (no_answer (record { refusal = refusal; row = row }) x e)
 
--- ---- the header
-
-module _ (names : List (List ℕ)) (room : ℕ) where
-  pub head_name : same_text (get_or names 0 []) commits_name ≡ false → header_refusal names room ≡ 3
-  unfolding header_refusal
-  head_name e = rw e
-
-  pub head_none : depth_of names ≡ 0 → header_refusal names room ≡ 3
-  unfolding header_refusal
-  head_none e = rw (e, and_false (same_text (get_or names 0 []) commits_name))
-
-  module _ (same : same_text (get_or names 0 []) commits_name ≡ true) (some : 0 < depth_of names) where
-    pub head_wide : 128 < length names → header_refusal names room ≡ 11
-    unfolding header_refusal
-    head_wide h = rw (same, lt-ltb 0 (depth_of names) some, lt-leb (length names) 128 h)
-
-    pub head_deep : length names ≤ 128 → 64 < depth_of names → header_refusal names room ≡ 11
-    unfolding header_refusal
-    head_deep w h = rw (same, lt-ltb 0 (depth_of names) some, le-leb (length names) 128 w, lt-leb (depth_of names) 64 h)
-
-    pub head_short : length names ≤ 128 → depth_of names ≤ 64 → room ≤ depth_of names → header_refusal names room ≡ 16
-    unfolding header_refusal
-    head_short w d h = rw (same, lt-ltb 0 (depth_of names) some, le-leb (length names) 128 w, le-leb (depth_of names) 64 d, le-ltb (depth_of names) room h)
-
-    pub head_good : length names ≤ 128 → depth_of names ≤ 64 → depth_of names < room → header_refusal names room ≡ 0
-    unfolding header_refusal
-    head_good w d h = rw (same, lt-ltb 0 (depth_of names) some, le-leb (length names) 128 w, le-leb (depth_of names) 64 d, lt-ltb (depth_of names) room h)
-
--- ---- the rows: m is the refusal of the first line's fields
+-- what holds of a round that passes
+pub round_facts : (width skip room : ℕ) (row : List (List ℕ)) (round : ℕ) → round_judged width skip room row round ≡ Ok tt
+    → (row_judged width skip row ≡ Ok tt) × ((round < 65536) × (round < room))
+unfolding round_judged
+round_facts width skip room row round = go (row_judged width skip row) (ltb round 65536) (ltb round room) (ltb-true round 65536) (ltb-true round room)
+  where
+    go : (j : Judgement) (a b : Bool) → (a ≡ true → round < 65536) → (b ≡ true → round < room)
+        → ◌≡◌ {A = Judgement} (and_then j (and_then (passed_if a Size) (passed_if b ShortBuffer))) (Ok tt) → (j ≡ Ok tt) × ((round < 65536) × (round < room))
+    go (Ok y) true true f g e = (refl, (f refl, g refl))
+    go (Ok y) true false f g e = absurd (no_answer ShortBuffer tt e)
+    go (Ok y) false b f g e = absurd (no_answer Size tt e)
+    go (Err refusal) a b f g e = absurd (no_answer refusal tt e)
 
 module _ (width skip depth room : ℕ) where
-  pub rows_none : (rows : List (List ℕ)) (round : ℕ) → rows ≡ [] → round ≡ 0 → judge_rows width skip depth room rows round ≡ Refused 10 0
+  pub rows_none : (rows : List (List ℕ)) (round : ℕ) → rows ≡ [] → round ≡ 0 → judge_rows width skip depth room rows round ≡ refused_in NoRows 0
   rows_none rows round e z = ap (λ (r : List (List ℕ)). judge_rows width skip depth room r round) e ∙ rw (eq-eqb round 0 z)
 
-  pub rows_done : (rows : List (List ℕ)) (round : ℕ) → rows ≡ [] → (round ≡ 0 → ⊥) → judge_rows width skip depth room rows round ≡ Bank depth round
+  pub rows_done : (rows : List (List ℕ)) (round : ℕ) → rows ≡ [] → (round ≡ 0 → ⊥) → judge_rows width skip depth room rows round ≡ sized depth round
   rows_done rows round e n = ap (λ (r : List (List ℕ)). judge_rows width skip depth room r round) e ∙ rw (ne_eqb round 0 n)
 
-  module _ (rows : List (List ℕ)) (line : List ℕ) (rest : List (List ℕ)) (round m : ℕ) (e : rows ≡ line ∷ rest) (f : m ≡ row_refusal width skip (fields line)) where
-    -- the answer, with the row's refusal in place
-    abbrev opened : Answer
-    opened =
-        unless m (round + 2) (cond (leb 65536 round) (Refused 11 (round + 2)) (cond (leb room round) (Refused 16 (round + 2)) (judge_rows width skip depth room rest (suc round))))
+  module _ (rows : List (List ℕ)) (line : List ℕ) (rest : List (List ℕ)) (round : ℕ) (m : Result ⊤ RefusedRow) (e : rows ≡ line ∷ rest) (f : m ≡ at_row (round_judged width skip room (fields line) round) (round + 2)) where
+    -- the answer, with what is said of the line in place
+    abbrev opened : Result ⊤ RefusedRow → Answer
+    opened said = unless said (judge_rows width skip depth room rest (suc round))
 
-    open_row : judge_rows width skip depth room rows round ≡ opened
-    open_row =
-        ap (λ (r : List (List ℕ)). judge_rows width skip depth room r round) e
-        ∙ ap (λ (n : ℕ). unless n (round + 2) (cond (leb 65536 round) (Refused 11 (round + 2)) (cond (leb room round) (Refused 16 (round + 2)) (judge_rows width skip depth room rest (suc round))))) (sym f)
+    open_row : judge_rows width skip depth room rows round ≡ opened m
+    open_row = ap (λ (r : List (List ℕ)). judge_rows width skip depth room r round) e ∙ ap opened (sym f)
 
-    pub rows_refused : (m ≡ 0 → ⊥) → judge_rows width skip depth room rows round ≡ Refused m (round + 2)
-    rows_refused n = open_row ∙ rw (ne_eqb m 0 n)
+    pub rows_refused : (q : RefusedRow) → m ≡ Err q → judge_rows width skip depth room rows round ≡ Err q
+    rows_refused q n = open_row ∙ ap opened n
 
-    pub rows_many : m ≡ 0 → 65536 ≤ round → judge_rows width skip depth room rows round ≡ Refused 11 (round + 2)
-    rows_many z h = open_row ∙ rw (eq-eqb m 0 z, le-leb 65536 round h)
+    pub rows_next : (x : ⊤) → m ≡ Ok x → judge_rows width skip depth room rows round ≡ judge_rows width skip depth room rest (round + 1)
+    rows_next x n = open_row ∙ ap opened n ∙ ap (judge_rows width skip depth room rest) (sym (add-one round))
 
-    pub rows_full : m ≡ 0 → round < 65536 → room ≤ round → judge_rows width skip depth room rows round ≡ Refused 16 (round + 2)
-    rows_full z h k = open_row ∙ rw (eq-eqb m 0 z, lt-leb 65536 round h, le-leb room round k)
-
-    pub rows_next : m ≡ 0 → round < 65536 → round < room → judge_rows width skip depth room rows round ≡ judge_rows width skip depth room rest (round + 1)
-    rows_next z h k = open_row ∙ rw (eq-eqb m 0 z, lt-leb 65536 round h, lt-leb room round k) (ap (judge_rows width skip depth room rest) (sym (add-one round)))
+    pub rows_few : (x : ⊤) → m ≡ Ok x → round < 65536
+    rows_few x n =
+        let j = round_judged width skip room (fields line) round in
+        (round_facts width skip room (fields line) round (row_passed j (round + 2) x (sym f ∙ n))).1.0
 
 -- ---- the header and the rows
 
 -- what holds where nothing is wrong with the header
-pub head_facts : (names : List (List ℕ)) (room : ℕ) → header_refusal names room ≡ 0 → (0 < depth_of names) × ((depth_of names ≤ 64) × (depth_of names < room))
-unfolding header_refusal
+pub head_facts : (names : List (List ℕ)) (room : ℕ) → header_judged names room ≡ Ok tt → (0 < depth_of names) × ((depth_of names ≤ 64) × (depth_of names < room))
+unfolding header_judged
 head_facts names room e =
     let f = go (same_text (get_or names 0 []) commits_name) (ltb 0 (depth_of names)) (leb (length names) 128) (leb (depth_of names) 64) (ltb (depth_of names) room) e in
     (ltb-true 0 (depth_of names) f.0, (leb-true (depth_of names) 64 f.1.0, ltb-true (depth_of names) room f.1.1))
   where
-    go : (a b c d f : Bool) → ◌≡◌ {A = ℕ} (cond (a && b) (cond (c && d) (cond f 0 16) 11) 3) 0 → (b ≡ true) × ((d ≡ true) × (f ≡ true))
-    go false b c d f e = absurd (omega arith)
-    go true false c d f e = absurd (omega arith)
-    go true true false d f e = absurd (omega arith)
-    go true true true false f e = absurd (omega arith)
-    go true true true true false e = absurd (omega arith)
+    go : (a b c d f : Bool) → ◌≡◌ {A = Judgement} (and_then (passed_if (a && b) WrongHeader) (and_then (passed_if (c && d) Size) (passed_if f ShortBuffer))) (Ok tt)
+        → (b ≡ true) × ((d ≡ true) × (f ≡ true))
+    go false b c d f e = absurd (no_answer WrongHeader tt e)
+    go true false c d f e = absurd (no_answer WrongHeader tt e)
+    go true true false d f e = absurd (no_answer Size tt e)
+    go true true true false f e = absurd (no_answer Size tt e)
+    go true true true true false e = absurd (no_answer ShortBuffer tt e)
     go true true true true true e = (refl, (refl, refl))
 
 pub depth_width : (names : List (List ℕ)) → depth_of names ≤ length names
@@ -169,19 +154,27 @@ depth_width (name ∷ names) = go (starts_with 97 name) (depth_width names)
     go true h = suc-le-suc h
     go false h = le_trans h (le-suc (length names))
 
-module _ (header : List ℕ) (rows : List (List ℕ)) (commits signals curve m : ℕ) (e : m ≡ header_refusal (fields header) curve) where
-  pub lines_refused : (m ≡ 0 → ⊥) → judge_lines (header ∷ rows) commits signals curve ≡ Refused m 1
-  unfolding judge_lines
-  lines_refused n = rw (← e) (rw (ne_eqb m 0 n))
+module _ (header : List ℕ) (rows : List (List ℕ)) (commits signals curve : ℕ) (m : Result ⊤ RefusedRow) (e : m ≡ at_row (header_judged (fields header) curve) 1) where
+  -- the answer, with what is said of the header in place
+  abbrev behind_header : Result ⊤ RefusedRow → Answer
+  behind_header said =
+      unless said (judge_rows (length (fields header)) (length (fields header) - depth_of (fields header)) (depth_of (fields header)) (room_for (depth_of (fields header)) commits signals) rows 0)
 
-  pub lines_judged : m ≡ 0
+  pub lines_refused : (q : RefusedRow) → m ≡ Err q → judge_lines (header ∷ rows) commits signals curve ≡ Err q
+  unfolding judge_lines
+  lines_refused q n = ap behind_header (sym e ∙ n)
+
+  pub lines_judged : (x : ⊤) → m ≡ Ok x
       → judge_lines (header ∷ rows) commits signals curve
       ≡ judge_rows (length (fields header)) (length (fields header) - depth_of (fields header)) (depth_of (fields header)) (room_for (depth_of (fields header)) commits signals) rows 0
   unfolding judge_lines
-  lines_judged z = rw (← e) (rw (eq-eqb m 0 z))
+  lines_judged x n = ap behind_header (sym e ∙ n)
+
+  pub lines_facts : (x : ⊤) → m ≡ Ok x → (0 < depth_of (fields header)) × ((depth_of (fields header) ≤ 64) × (depth_of (fields header) < curve))
+  lines_facts x n = head_facts (fields header) curve (row_passed (header_judged (fields header) curve) 1 x (sym e ∙ n))
 
 module _ (text : List ℕ) (commits signals curve : ℕ) where
-  pub text_high : all_ascii text ≡ false → judged text commits signals curve ≡ Refused 1 0
+  pub text_high : all_ascii text ≡ false → judged text commits signals curve ≡ refused_in NotAscii 0
   unfolding judged
   text_high e = rw e
 
@@ -189,7 +182,7 @@ module _ (text : List ℕ) (commits signals curve : ℕ) where
   unfolding judged
   text_judged e = rw e
 
-pub text_empty : (text : List ℕ) (commits signals curve : ℕ) → length text ≡ 0 → judged text commits signals curve ≡ Refused 2 0
+pub text_empty : (text : List ℕ) (commits signals curve : ℕ) → length text ≡ 0 → judged text commits signals curve ≡ refused_in EmptyText 0
 unfolding judged judge_lines
 text_empty [] commits signals curve e = refl
 text_empty (b ∷ s) commits signals curve e = absurd (omega arith)

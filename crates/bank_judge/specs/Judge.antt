@@ -1,13 +1,25 @@
--- What a trace bank's text is refused for, over the list of its lines and the list of a line's fields. A refusal's number is 0 where nothing is wrong.
-use Rattle.std.specs.Prelude.{ℕ, suc, ◌+◌, ◌-◌, ◌/◌, min, ◌&&◌, cond, List, [], ◌∷◌, leb, ltb, eqb, length, get_or, drop}
+-- What a trace bank's text is refused for, over the list of its lines and the list of a line's fields.
+use Rattle.std.specs.Prelude.{ℕ, suc, ◌+◌, ◌-◌, ◌/◌, min, ◌&&◌, cond, List, [], ◌∷◌, leb, ltb, eqb, length, get_or, drop, ⊤, Result, Ok, Err}
+use Rattle.refusals.specs.declared.Refusal.{Refusal}
+use Rattle.refusals.specs.declared.Refusal.TheVariants.{NotAscii, EmptyText, WrongHeader, FieldCount, NoRows, Size, ShortBuffer}
+use Rattle.refusals.specs.declared.RefusedRow.{RefusedRow}
+use Rattle.refusals.specs.Refusals.{Judgement, passed_if, and_then, number_of}
 use Rattle.text.specs.Lines.{lines, starts_with}
 use Rattle.text.specs.Fields.{fields, same_text}
 use Rattle.blocks.specs.Blocks.{all_ascii}
-use Rattle.numeral.specs.Refusals.{whole_refusal}
-use Rattle.decimals.specs.Decimals.{decimal_refusal, decimal_of}
+use Rattle.decimals.specs.Decimals.{decimal_of, without_value}
 use Rattle.numeral.specs.Spelling.{whole_of}
-use Rattle.bank_judge.specs.declared.Answer.{Answer}
-use Rattle.bank_judge.specs.declared.Answer.TheVariants.{Bank, Refused}
+use Rattle.bank_judge.specs.declared.BankSize.{BankSize}
+
+-- what reading a bank answers: its size, or why there is none, with the row of the line at fault
+abbrev pub Answer : Type 0
+Answer = Result BankSize RefusedRow
+
+abbrev pub sized : ℕ → ℕ → Answer
+sized depth rounds = Ok (record { depth = depth; rounds = rounds })
+
+abbrev pub refused_in : Refusal → ℕ → Answer
+refused_in refusal row = Err (record { refusal = refusal; row = row })
 
 -- ---- the sizes of a bank
 abbrev pub most_columns : ℕ
@@ -30,38 +42,42 @@ abbrev pub depth_of : List (List ℕ) → ℕ
 depth_of [] = 0
 depth_of (name ∷ names) = cond (starts_with 97 name) (suc (depth_of names)) (depth_of names)
 
--- 3: the first column is not `commits`, or no name starts with `a`; 11: too many columns; 16: the curve has too little room
-unfoldable pub header_refusal : List (List ℕ) → ℕ → ℕ
-header_refusal names room =
-    cond (same_text (get_or names 0 []) commits_name && ltb 0 (depth_of names))
-    (cond (leb (length names) most_columns && leb (depth_of names) most_depth) (cond (ltb (depth_of names) room) 0 16) 11)
-    3
+-- the first column is `commits` and a name starts with `a`; then there are not too many columns; then the curve has room
+unfoldable pub header_judged : List (List ℕ) → ℕ → Judgement
+header_judged names room =
+    and_then (passed_if (same_text (get_or names 0 []) commits_name && ltb 0 (depth_of names)) WrongHeader)
+    (and_then (passed_if (leb (length names) most_columns && leb (depth_of names) most_depth) Size)
+    (passed_if (ltb (depth_of names) room) ShortBuffer))
 
--- the first of two refusals
-abbrev pub or_else : ℕ → ℕ → ℕ
-or_else first second = cond (eqb first 0) second first
-
-abbrev pub signals_refusal : List (List ℕ) → ℕ
-signals_refusal [] = 0
-signals_refusal (field ∷ rest) = or_else (decimal_refusal (decimal_of field)) (signals_refusal rest)
+abbrev pub signals_judged : List (List ℕ) → Judgement
+signals_judged [] = Ok tt
+signals_judged (field ∷ rest) = and_then (without_value (decimal_of field)) (signals_judged rest)
 
 -- a row of `width` fields: the first is the commits, those after the first `skip` are the signal
-unfoldable pub row_refusal : ℕ → ℕ → List (List ℕ) → ℕ
-row_refusal width skip row =
-    cond (eqb (length row) width) (or_else (whole_refusal (whole_of (get_or row 0 []))) (signals_refusal (drop skip row))) 4
+unfoldable pub row_judged : ℕ → ℕ → List (List ℕ) → Judgement
+row_judged width skip row =
+    and_then (passed_if (eqb (length row) width) FieldCount) (and_then (without_value (whole_of (get_or row 0 []))) (signals_judged (drop skip row)))
 
--- the answer, unless a refusal goes before it
-abbrev pub unless : ℕ → ℕ → Answer → Answer
-unless number row answer = cond (eqb number 0) answer (Refused number row)
+-- the row of a round, then whether a bank has so many rounds, then whether there is room
+unfoldable pub round_judged : ℕ → ℕ → ℕ → List (List ℕ) → ℕ → Judgement
+round_judged width skip room row round =
+    and_then (row_judged width skip row) (and_then (passed_if (ltb round most_rounds) Size) (passed_if (ltb round room) ShortBuffer))
+
+-- a judgement of a row, with the row
+abbrev pub at_row : Judgement → ℕ → Result ⊤ RefusedRow
+at_row (Ok passed) row = Ok tt
+at_row (Err refusal) row = Err (record { refusal = refusal; row = row })
+
+-- the answer, unless a row is refused before it
+abbrev pub unless : Result ⊤ RefusedRow → Answer → Answer
+unless (Ok passed) answer = answer
+unless (Err refused) answer = Err refused
 
 -- the rows from the one of this round on: round 0 stands in row 2
 abbrev pub judge_rows : ℕ → ℕ → ℕ → ℕ → List (List ℕ) → ℕ → Answer
-judge_rows width skip depth room [] round = cond (eqb round 0) (Refused 10 0) (Bank depth round)
+judge_rows width skip depth room [] round = cond (eqb round 0) (refused_in NoRows 0) (sized depth round)
 judge_rows width skip depth room (line ∷ rest) round =
-    unless (row_refusal width skip (fields line)) (round + 2)
-    (cond (leb most_rounds round) (Refused 11 (round + 2))
-    (cond (leb room round) (Refused 16 (round + 2))
-    (judge_rows width skip depth room rest (suc round))))
+    unless (at_row (round_judged width skip room (fields line) round) (round + 2)) (judge_rows width skip depth room rest (suc round))
 
 -- how many rounds there is room for
 abbrev pub room_for : ℕ → ℕ → ℕ → ℕ
@@ -69,20 +85,20 @@ room_for depth commits signals = min commits (signals / depth)
 
 -- the header, then the rows; the numbers are the room in the three buffers
 unfoldable pub judge_lines : List (List ℕ) → ℕ → ℕ → ℕ → Answer
-judge_lines [] commits signals curve = Refused 2 0
+judge_lines [] commits signals curve = refused_in EmptyText 0
 judge_lines (header ∷ rows) commits signals curve =
     let names = fields header in
     let depth = depth_of names in
-    unless (header_refusal names curve) 1 (judge_rows (length names) (length names - depth) depth (room_for depth commits signals) rows 0)
+    unless (at_row (header_judged names curve) 1) (judge_rows (length names) (length names - depth) depth (room_for depth commits signals) rows 0)
 
 unfoldable pub judged : List ℕ → ℕ → ℕ → ℕ → Answer
-judged text commits signals curve = cond (all_ascii text) (judge_lines (lines text) commits signals curve) (Refused 1 0)
+judged text commits signals curve = cond (all_ascii text) (judge_lines (lines text) commits signals curve) (refused_in NotAscii 0)
 
 -- ---- the refusal number and the row of each answer; 0 where there is a bank
 abbrev pub answer_refusal : Answer → ℕ
-answer_refusal (Bank depth rounds) = 0
-answer_refusal (Refused number row) = number
+answer_refusal (Ok size) = 0
+answer_refusal (Err refused) = number_of refused.refusal
 
 abbrev pub answer_row : Answer → ℕ
-answer_row (Bank depth rounds) = 0
-answer_row (Refused number row) = row
+answer_row (Ok size) = 0
+answer_row (Err refused) = refused.row

@@ -10,9 +10,9 @@ pub const MOST_DEPTH: usize = 64;
 
 pub const MOST_ROUNDS: usize = 65536;
 
-// What reading a bank answers: its size, or the refusal's number and row.
+// The size of a bank that was read.
 #[derive(Clone, Copy)]
-pub enum Answer {
-    Bank { depth: u32, rounds: u32 },
-    Refused { number: u64, row: u64 },
+pub struct BankSize {
+    pub depth: u32,
+    pub rounds: u32,
 }

@@ -1,4 +1,4 @@
--- `bank::judging::judge` meets its contract: the first line is the header, and the lines after it the rows. Assumes nothing.
+-- `bank_judge::inner::judge` meets its contract: the first line is the header, and the lines after it the rows. Assumes nothing.
 use mathlib.Core.Path.{sym, ap, ◌∙◌}
 use mathlib.Core.List.{List}
 use Prim.Native.Nat.{ℕ}
