@@ -19,12 +19,11 @@ use Rattle.float.specs.Floats.{f0, is_clear}
 use Rattle.float.specs.Range.{in_range}
 use Rattle.float.proofs.Ranges.{in_range_lem}
 use Rattle.text.specs.Lines.{lines}
-use Rattle.bank_judge.specs.declared.Answer.TheVariants.{Bank}
-use Rattle.bank_judge.specs.Judge.{judged}
+use Rattle.std.specs.Prelude.{Ok}
+use Rattle.bank_judge.specs.Judge.{sized, judged}
 use Rattle.bank_fill.specs.Fill.{commits_of}
 use Rattle.bank_curve.specs.Curve.{sum_up_to}
 use Rattle.bank.specs.Read.{bank_read}
-use Rattle.bank.specs.declared.Expected.TheVariants.{Value}
 use Rattle.bank.specs.Acceptance.{most_accepted, expected_accepted}
 use Rattle.bank_fill.proofs.Accepted.{accepted, commits_length}
 use Rattle.bank_curve.proofs.Curve.{sum_small}
@@ -85,7 +84,7 @@ zero_over : (n : ℕ) → 0 < n → round binary64 false 0 n ≡ f0
 unfolding round of_bits
 zero_over n N = round_same binary64 false 0 n 0 1 N (zero-lt-suc 0) (sym (zero-mul n))
 
-module _ (text commits : List ℕ) (signals curve : List Float) (depth rounds : ℕ) (e : judged text (length commits) (length signals) (length curve) ≡ Bank depth rounds) where
+module _ (text commits : List ℕ) (signals curve : List Float) (depth rounds : ℕ) (e : judged text (length commits) (length signals) (length curve) ≡ sized depth rounds) where
   pub rounds_bounded : (0 < rounds) × (rounds ≤ 65536)
   rounds_bounded = let a = accepted text (length commits) (length signals) (length curve) depth rounds e in (a.some, a.few)
 
@@ -122,10 +121,10 @@ module _ (text commits : List ℕ) (signals curve : List Float) (depth rounds : 
       (round_mono binary64 (sum_up_to g rows) rounds (sum_up_to (g + 1) rows) rounds n n k))
 
   -- a draft of none is expected to have none accepted
-  pub expected_none : expected_accepted (bank_read text commits signals curve).curve depth 0 ≡ Value f0
+  pub expected_none : expected_accepted (bank_read text commits signals curve).curve depth 0 ≡ Ok f0
   expected_none =
       let c = (bank_read text commits signals curve).curve in
       let some : depth ≡ 0 → ⊥ = λ z. above_zero depth depth_bounded.0 z in
       let none : 0 ≤ depth = omega arith in
       let first : 0 ≡ min 0 depth = omega arith in
-      sym (in_the_range c depth 0 0 (sizes_fit depth 0 some depth_bounded.1 (omega arith)) refl 0 first (some_entry c curve_starts) (curve_in_range 0 none)) ∙ ap Value curve_starts
+      sym (in_the_range c depth 0 (sizes_fit depth 0 some depth_bounded.1 (omega arith)) 0 first (some_entry c curve_starts) (curve_in_range 0 none)) ∙ ap Ok curve_starts

@@ -17,9 +17,7 @@ use Rattle.decimals.specs.Decimals.{decimal_of}
 use Rattle.bank_fill.specs.Fill.{whole_value, decimal_value, commits_of, decimals_of, signals_of}
 use Rattle.bank_curve.specs.Curve.{sum_up_to, curve_from, over}
 use Rattle.bank.specs.Read.{filled, bank_read}
-use Rattle.bank_judge.specs.Judge.{judged}
-use Rattle.bank_judge.specs.declared.Answer.{Answer}
-use Rattle.bank_judge.specs.declared.Answer.TheVariants.{Bank}
+use Rattle.bank_judge.specs.Judge.{Answer, sized, judged}
 use Rattle.bank_fill.proofs.Accepted.{accepted, commits_length, curve_length, decimals_length}
 
 -- commits[i] is the first field of row i
@@ -79,7 +77,7 @@ over_behind new old i d = get_or-append-add new (drop (length new) old) i d ∙ 
 
 -- ---- the same of what reading leaves, where the judge takes the text for a bank
 
-module _ (text commits : List ℕ) (signals curve : List Float) (depth rounds : ℕ) (e : judged text (length commits) (length signals) (length curve) ≡ Bank depth rounds) where
+module _ (text commits : List ℕ) (signals curve : List Float) (depth rounds : ℕ) (e : judged text (length commits) (length signals) (length curve) ≡ sized depth rounds) where
   -- the buffers, in which the values stand over the front
   commits_left : (bank_read text commits signals curve).commits ≡ over (commits_of (drop 1 (lines text))) commits
   unfolding bank_read

@@ -5,69 +5,59 @@ use mathlib.Core.List.{List, [], ◌∷◌}
 use Prim.Native.Nat.{ℕ, zero, suc, ◌+◌, ◌-◌, ◌*◌, ◌≤◌, ◌<◌}
 use native.Mathlib.Nat.{not-suc-le-zero, le_of_suc-le-suc}
 use native.Mathlib.Omega.{arith}
-use borrow.Author.Tests.{eqb-true, eqb-false}
 use lib.Dec.{eqb}
 use lib.Ieee.{Float}
 use lib.ListN.{length, get_or, drop, length-drop}
 use lib.Seq.{get_or-drop}
 use Rattle.text.specs.Lines.{lines}
 use Rattle.text.specs.Fields.{fields}
-use Rattle.numeral.specs.declared.answer.Whole.{Whole}
-use Rattle.numeral.specs.declared.answer.Whole.TheVariants.{Value as WholeValue, Malformed as NoWhole}
-use Rattle.decimals.specs.declared.Decimal.{Decimal}
-use Rattle.decimals.specs.declared.Decimal.TheVariants.{Value, Malformed, TooLong}
-use Rattle.numeral.specs.Spelling.{whole_of}
-use Rattle.decimals.specs.Decimals.{decimal_of, decimal_refusal}
-use Rattle.bank_judge.specs.declared.Answer.TheVariants.{Bank}
-use Rattle.numeral.specs.Refusals.{whole_refusal}
-use Rattle.bank_judge.specs.Judge.{or_else, signals_refusal, row_refusal, judged}
+use Rattle.std.specs.Prelude.{Result, Ok, Err}
+use Rattle.refusals.specs.declared.Refusal.TheVariants.{FieldCount}
+use Rattle.refusals.specs.Refusals.{Judgement, passed_if, and_then}
+use Rattle.numeral.specs.Spelling.{Whole, whole_of}
+use Rattle.decimals.specs.Decimals.{Decimal, decimal_of, without_value}
+use Rattle.bank_judge.specs.Judge.{sized, signals_judged, row_judged, judged}
 use Rattle.bank_fill.specs.Fill.{whole_value, decimal_value}
 use Rattle.bank.specs.Read.{bank_read}
+use Rattle.bank_judge.proofs.Laws.{no_answer}
 use Rattle.bank_fill.proofs.Accepted.{accepted}
 use Rattle.bank.proofs.Places.{commits_placed, signals_placed}
 
-has_whole : (w : Whole) → whole_refusal w ≡ 0 → w ≡ WholeValue (whole_value w)
-has_whole (WholeValue v) e = refl
-has_whole NoWhole e = absurd (omega arith)
+has_whole : (w : Whole) → without_value w ≡ Ok tt → w ≡ Ok (whole_value w)
+has_whole (Ok v) e = refl
+has_whole (Err refusal) e = absurd (no_answer refusal tt e)
 
-has_decimal : (x : Decimal) → decimal_refusal x ≡ 0 → x ≡ Value (decimal_value x)
-has_decimal (Value x) e = refl
-has_decimal Malformed e = absurd (omega arith)
-has_decimal TooLong e = absurd (omega arith)
+has_decimal : (x : Decimal) → without_value x ≡ Ok tt → x ≡ Ok (decimal_value x)
+has_decimal (Ok x) e = refl
+has_decimal (Err refusal) e = absurd (no_answer refusal tt e)
 
-both_none : (a b : ℕ) → or_else a b ≡ 0 → (a ≡ 0) × (b ≡ 0)
-both_none a b = go (eqb a 0) (eqb-true a 0) (eqb-false a 0)
-  where
-    go : (z : Bool) → (z ≡ true → a ≡ 0) → (z ≡ false → a ≡ 0 → ⊥) → cond z b a ≡ 0 → (a ≡ 0) × (b ≡ 0)
-    go true f g e = (f refl, e)
-    go false f g e = absurd (g refl e)
+both_passed : (j k : Judgement) → and_then j k ≡ Ok tt → (j ≡ Ok tt) × (k ≡ Ok tt)
+both_passed (Ok x) k e = (refl, e)
+both_passed (Err refusal) k e = absurd (no_answer refusal tt e)
 
-row_numbers : (width skip : ℕ) (row : List (List ℕ)) → row_refusal width skip row ≡ 0 → (whole_refusal (whole_of (get_or row 0 [])) ≡ 0) × (signals_refusal (drop skip row) ≡ 0)
-unfolding row_refusal
-row_numbers width skip row = go (eqb (length row) width)
-  where
-    go : (z : Bool) → ◌≡◌ {A = ℕ} (cond z (or_else (whole_refusal (whole_of (get_or row 0 []))) (signals_refusal (drop skip row))) 4) 0
-        → (whole_refusal (whole_of (get_or row 0 [])) ≡ 0) × (signals_refusal (drop skip row) ≡ 0)
-    go true e = both_none (whole_refusal (whole_of (get_or row 0 []))) (signals_refusal (drop skip row)) e
-    go false e = absurd (omega arith)
+row_numbers : (width skip : ℕ) (row : List (List ℕ)) → row_judged width skip row ≡ Ok tt → (without_value (whole_of (get_or row 0 [])) ≡ Ok tt) × (signals_judged (drop skip row) ≡ Ok tt)
+unfolding row_judged
+row_numbers width skip row e =
+    let counted = both_passed (passed_if (eqb (length row) width) FieldCount) (and_then (without_value (whole_of (get_or row 0 []))) (signals_judged (drop skip row))) e in
+    both_passed (without_value (whole_of (get_or row 0 []))) (signals_judged (drop skip row)) counted.1
 
-signal_numbers : (fs : List (List ℕ)) → signals_refusal fs ≡ 0 → (j : ℕ) → j < length fs → decimal_refusal (decimal_of (get_or fs j [])) ≡ 0
+signal_numbers : (fs : List (List ℕ)) → signals_judged fs ≡ Ok tt → (j : ℕ) → j < length fs → without_value (decimal_of (get_or fs j [])) ≡ Ok tt
 signal_numbers [] e j h = absurd (not-suc-le-zero h)
-signal_numbers (f ∷ fs) e zero h = (both_none (decimal_refusal (decimal_of f)) (signals_refusal fs) e).0
-signal_numbers (f ∷ fs) e (suc j) h = signal_numbers fs (both_none (decimal_refusal (decimal_of f)) (signals_refusal fs) e).1 j (le_of_suc-le-suc h)
+signal_numbers (f ∷ fs) e zero h = (both_passed (without_value (decimal_of f)) (signals_judged fs) e).0
+signal_numbers (f ∷ fs) e (suc j) h = signal_numbers fs (both_passed (without_value (decimal_of f)) (signals_judged fs) e).1 j (le_of_suc-le-suc h)
 
-module _ (text commits : List ℕ) (signals curve : List Float) (depth rounds : ℕ) (e : judged text (length commits) (length signals) (length curve) ≡ Bank depth rounds) where
-  pub commits_spelled : (i d : ℕ) → i < rounds → whole_of (get_or (fields (get_or (drop 1 (lines text)) i [])) 0 []) ≡ WholeValue (get_or (bank_read text commits signals curve).commits i d)
+module _ (text commits : List ℕ) (signals curve : List Float) (depth rounds : ℕ) (e : judged text (length commits) (length signals) (length curve) ≡ sized depth rounds) where
+  pub commits_spelled : (i d : ℕ) → i < rounds → whole_of (get_or (fields (get_or (drop 1 (lines text)) i [])) 0 []) ≡ Ok (get_or (bank_read text commits signals curve).commits i d)
   commits_spelled i d h =
       let a = accepted text (length commits) (length signals) (length curve) depth rounds e in
       let row = fields (get_or (drop 1 (lines text)) i []) in
       let width = length (fields (get_or (lines text) 0 [])) in
       has_whole (whole_of (get_or row 0 [])) (row_numbers width (width - depth) row (a.clean i (subst (λ (n : ℕ). i < n) a.all h))).0
-      ∙ ap WholeValue (sym (commits_placed text commits signals curve depth rounds e i d h))
+      ∙ ap Ok (sym (commits_placed text commits signals curve depth rounds e i d h))
 
   pub signals_spelled : (i j : ℕ) (d : Float) → i < rounds → j < depth
       → decimal_of (get_or (fields (get_or (drop 1 (lines text)) i [])) (length (fields (get_or (lines text) 0 [])) - depth + j) [])
-      ≡ Value (get_or (bank_read text commits signals curve).signals (i * depth + j) d)
+      ≡ Ok (get_or (bank_read text commits signals curve).signals (i * depth + j) d)
   signals_spelled i j d h k =
       let a = accepted text (length commits) (length signals) (length curve) depth rounds e in
       let row = fields (get_or (drop 1 (lines text)) i []) in
@@ -77,6 +67,6 @@ module _ (text commits : List ℕ) (signals curve : List Float) (depth rounds : 
       let l : length (drop (width - depth) row) ≡ width - (width - depth) = length-drop (width - depth) row ∙ ap (λ (n : ℕ). n - (width - depth)) (a.wide i i_in) in
       let j_in : j < length (drop (width - depth) row) = omega arith in
       has_decimal (decimal_of (get_or row (width - depth + j) []))
-      (ap (λ (f : List ℕ). decimal_refusal (decimal_of f)) (sym (get_or-drop (width - depth) row j []))
+      (ap (λ (f : List ℕ). without_value (decimal_of f)) (sym (get_or-drop (width - depth) row j []))
       ∙ signal_numbers (drop (width - depth) row) (row_numbers width (width - depth) row (a.clean i i_in)).1 j j_in)
-      ∙ ap Value (sym (signals_placed text commits signals curve depth rounds e i j d h k))
+      ∙ ap Ok (sym (signals_placed text commits signals curve depth rounds e i j d h k))

@@ -1,10 +1,8 @@
 -- What reading a trace bank answers, and what it leaves in the three buffers.
-use Rattle.std.specs.Prelude.{ℕ, suc, ◌-◌, List, [], Float, length, get_or, drop}
+use Rattle.std.specs.Prelude.{ℕ, suc, ◌-◌, List, [], Float, length, get_or, drop, Ok, Err}
 use Rattle.text.specs.Lines.{lines}
 use Rattle.text.specs.Fields.{fields}
-use Rattle.bank_judge.specs.declared.Answer.{Answer}
-use Rattle.bank_judge.specs.declared.Answer.TheVariants.{Bank, Refused}
-use Rattle.bank_judge.specs.Judge.{judged}
+use Rattle.bank_judge.specs.Judge.{Answer, judged}
 use Rattle.bank_fill.specs.Fill.{commits_of, signals_of}
 use Rattle.bank_curve.specs.Curve.{curve_from, over}
 
@@ -17,16 +15,16 @@ pub record Outcome : Type 0 where
 
 -- a refusal leaves the buffers as they were
 abbrev pub filled : List (List ℕ) → Answer → List ℕ → List Float → List Float → Outcome
-filled text (Refused number row) commits signals curve =
-    record { answer = Refused number row; commits = commits; signals = signals; curve = curve }
-filled text (Bank depth rounds) commits signals curve =
+filled text (Err refused) commits signals curve =
+    record { answer = Err refused; commits = commits; signals = signals; curve = curve }
+filled text (Ok size) commits signals curve =
     let header = get_or text 0 [] in
     let rows = drop 1 text in
     record {
-      answer = Bank depth rounds;
+      answer = Ok size;
       commits = over (commits_of rows) commits;
-      signals = over (signals_of (length (fields header) - depth) rows) signals;
-      curve = over (curve_from 0 (suc depth) (commits_of rows)) curve;
+      signals = over (signals_of (length (fields header) - size.depth) rows) signals;
+      curve = over (curve_from 0 (suc size.depth) (commits_of rows)) curve;
     }
 
 unfoldable pub bank_read : List ℕ → List ℕ → List Float → List Float → Outcome

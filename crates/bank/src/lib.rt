@@ -3,61 +3,52 @@
 
 ghost use Rattle.std.specs.Prelude.{◌≡◌};
 ghost use Rattle.bank.specs.Read.{bank_read};
-ghost use Rattle.bank.specs.Acceptance.{expected_accepted, sizes_refusal};
+ghost use Rattle.bank.specs.Acceptance.{expected_accepted, sizes_judged};
 
-use bank_judge::{Answer, MOST_DEPTH};
+use bank_judge::{BankSize, MOST_DEPTH};
+use refusals::{Refusal, RefusedRow};
 
 // Reads a trace bank: its size, with its rounds and its curve in the buffers, or the first refusal, with nothing written.
-pub fn read(text: &[u8], commits: &mut [u32], signals: &mut [f64], curve: &mut [f64]) -> Answer
+pub fn read(
+    text: &[u8],
+    commits: &mut [u32],
+    signals: &mut [f64],
+    curve: &mut [f64],
+) -> Result<BankSize, RefusedRow>
     ensures { record { answer = result; commits = commits.new; signals = signals.new; curve = curve.new } ≡ bank_read text.now commits.old signals.old curve.old }
 {
-    let answer = bank_judge::inner::judge(text, commits.len(), signals.len(), curve.len());
-    let Answer::Bank { depth, rounds } = answer else {
-        return answer;
-    };
-    bank_fill::inner::fill(text, depth, rounds, commits, signals, curve);
-    answer
-}
-
-// What a lookup in the bank's curve answers: the value, or the refusal's number.
-#[derive(Clone, Copy)]
-pub enum Expected {
-    Value(f64),
-    Refused(u64),
+    let size = bank_judge::inner::judge(text, commits.len(), signals.len(), curve.len())?;
+    bank_fill::inner::fill(text, size.depth, size.rounds, commits, signals, curve);
+    Ok(size)
 }
 
 // The expected acceptance at draft depth `gamma`, of a bank of this depth with this curve: past the depth it is that at the depth.
-pub fn expected_accepted(curve: &[f64], depth: u32, gamma: u32) -> Expected
+#[tactic(auto, unfolding(crate::specs::Acceptance::expected_accepted, crate::specs::Acceptance::curve_entry, crate::specs::Acceptance::entry_of))]
+pub fn expected_accepted(curve: &[f64], depth: u32, gamma: u32) -> Result<f64, Refusal>
     ensures { result ≡ expected_accepted curve.now depth gamma }
 {
-    let number = sizes_refusal(depth, gamma);
-    if number != 0 {
-        return Expected::Refused(number);
-    }
-    let g = bank_curve::inner::capped(gamma, depth) as usize;
-    if curve.len() <= g {
-        return Expected::Refused(16);
-    }
-    let value = curve[g];
-    if float::in_range(value, 0.0, 64.0) {
-        Expected::Value(value)
+    judge_sizes(depth, gamma)?;
+    let g = gamma.min(depth) as usize;
+    if g < curve.len() {
+        let value = curve[g];
+        if float::in_range(value, 0.0, 64.0) {
+            Ok(value)
+        } else {
+            Err(Refusal::Input)
+        }
     } else {
-        Expected::Refused(15)
+        Err(Refusal::ShortBuffer)
     }
 }
 
-// 11 where the depth is no bank's or gamma is too large, else 0.
-fn sizes_refusal(depth: u32, gamma: u32) -> u64
-    ensures { result ≡ sizes_refusal depth gamma }
+// Refuses a depth that is no bank's, and a gamma that is too large.
+#[tactic(auto, unfolding(crate::specs::Acceptance::sizes_judged))]
+fn judge_sizes(depth: u32, gamma: u32) -> Result<(), Refusal>
+    ensures { result ≡ sizes_judged depth gamma }
 {
-    if depth == 0 {
-        return 11;
+    if 0 < depth && depth as usize <= MOST_DEPTH && gamma as usize <= MOST_DEPTH {
+        Ok(())
+    } else {
+        Err(Refusal::Size)
     }
-    if MOST_DEPTH < depth as usize {
-        return 11;
-    }
-    if MOST_DEPTH < gamma as usize {
-        return 11;
-    }
-    0
 }

@@ -5,49 +5,54 @@ use mathlib.Core.List.{List, [], ◌∷◌}
 use Prim.Native.Nat.{ℕ, zero, suc, ◌+◌, ◌-◌, ◌*◌, ◌/◌, ◌≤◌, ◌<◌, suc-le-suc, zero-le}
 use native.Mathlib.Nat.{le_trans, min-le_left, min-le_right, not-suc-le-zero, le_of_suc-le-suc, zero-mul, zero-add, suc-mul, add_comm, mul-le-mul_right, div-mul-le_self}
 use native.Mathlib.Omega.{arith}
-use borrow.Author.Tests.{leb-false, eqb-false, eqb-true}
-use lib.Dec.{leb, eqb}
+use borrow.Author.Tests.{eqb-false, eqb-true}
+use lib.Dec.{eqb}
 use lib.ListN.{length, get_or, take, drop, length-drop, length-append}
 use lib.Seq.{sets}
 use Rattle.text.specs.Lines.{lines, first_line, after_line}
 use Rattle.text.proofs.Walk.{line_first, some_text}
 use Rattle.text.specs.Fields.{fields}
+use Rattle.std.specs.Prelude.{Result, Ok, Err}
+use Rattle.refusals.specs.declared.Refusal.TheVariants.{NotAscii, EmptyText, FieldCount, NoRows}
+use Rattle.refusals.specs.declared.RefusedRow.{RefusedRow}
+use Rattle.refusals.specs.Refusals.{Judgement, passed_if, and_then}
 use Rattle.numeral.specs.Spelling.{whole_of}
-use Rattle.bank_judge.specs.declared.Answer.{Answer}
-use Rattle.bank_judge.specs.declared.Answer.TheVariants.{Bank, Refused}
-use Rattle.numeral.specs.Refusals.{whole_refusal}
+use Rattle.decimals.specs.Decimals.{without_value}
 use Rattle.blocks.specs.Blocks.{all_ascii}
-use Rattle.bank_judge.specs.Judge.{depth_of, header_refusal, or_else, signals_refusal, row_refusal, unless, judge_rows, room_for, judge_lines, judged}
+use Rattle.bank_judge.specs.declared.BankSize.{BankSize}
+use Rattle.bank_judge.specs.Judge.{Answer, sized, refused_in, depth_of, header_judged, signals_judged, row_judged, round_judged, at_row, unless, judge_rows, room_for, judge_lines, judged}
 use Rattle.bank_fill.specs.Fill.{commits_of, decimals_of, signals_of, Accepted}
 use Rattle.bank_curve.specs.Curve.{curve_from}
-use Rattle.bank_judge.proofs.Laws.{head_facts, depth_width}
+use Rattle.bank_judge.proofs.Laws.{no_answer, round_facts, head_facts, depth_width}
 use Rattle.bank_curve.proofs.Stores.{take_sets}
 
--- a refusal is no bank
-refused_no : (number row depth rounds : ℕ) → Refused number row ≡ Bank depth rounds → ⊥
-refused_no number row depth rounds e = let z : ◌≡◌ {A = ℕ} 0 1 = cc in omega arith
-
 -- past a test that did not refuse
-past : (z : Bool) (number row depth rounds : ℕ) (answer : Answer) → cond z (Refused number row) answer ≡ Bank depth rounds → (z ≡ false) × (answer ≡ Bank depth rounds)
-past true number row depth rounds answer e = absurd (refused_no number row depth rounds e)
-past false number row depth rounds answer e = (refl, e)
+past : (z : Bool) (q : RefusedRow) (answer : Answer) (s : BankSize) → ◌≡◌ {A = Answer} (cond z (Err q) answer) (Ok s) → (z ≡ false) × (answer ≡ Ok s)
+past true q answer s e = absurd (no_answer q s e)
+past false q answer s e = (refl, e)
 
-past_number : (m row depth rounds : ℕ) (answer : Answer) → unless m row answer ≡ Bank depth rounds → (m ≡ 0) × (answer ≡ Bank depth rounds)
-past_number m row depth rounds answer e = go (eqb m 0) (eqb-true m 0) e
-  where
-    go : (z : Bool) → (z ≡ true → m ≡ 0) → cond z answer (Refused m row) ≡ Bank depth rounds → (m ≡ 0) × (answer ≡ Bank depth rounds)
-    go true f e = (f refl, e)
-    go false f e = absurd (refused_no m row depth rounds e)
+past_row : (j : Judgement) (row : ℕ) (answer : Answer) (s : BankSize) → unless (at_row j row) answer ≡ Ok s → (j ≡ Ok tt) × (answer ≡ Ok s)
+past_row (Ok x) row answer s e = (refl, e)
+past_row (Err r) row answer s e = absurd (no_answer (record { refusal = r; row = row }) s e)
+
+-- the size of a bank
+abbrev depth_in : Answer → ℕ
+depth_in (Ok s) = s.depth
+depth_in (Err q) = 0
+
+abbrev rounds_in : Answer → ℕ
+rounds_in (Ok s) = s.rounds
+rounds_in (Err q) = 0
 
 -- a row that is not refused has as many fields as the header
-row_wide : (width skip : ℕ) (row : List (List ℕ)) → row_refusal width skip row ≡ 0 → length row ≡ width
-unfolding row_refusal
+row_wide : (width skip : ℕ) (row : List (List ℕ)) → row_judged width skip row ≡ Ok tt → length row ≡ width
+unfolding row_judged
 row_wide width skip row = go (eqb (length row) width) (eqb-true (length row) width)
   where
     go : (z : Bool) → (z ≡ true → length row ≡ width)
-        → ◌≡◌ {A = ℕ} (cond z (or_else (whole_refusal (whole_of (get_or row 0 []))) (signals_refusal (drop skip row))) 4) 0 → length row ≡ width
+        → ◌≡◌ {A = Judgement} (and_then (passed_if z FieldCount) (and_then (without_value (whole_of (get_or row 0 []))) (signals_judged (drop skip row)))) (Ok tt) → length row ≡ width
     go true f e = f refl
-    go false f e = absurd (omega arith)
+    go false f e = absurd (no_answer FieldCount tt e)
 
 pub decimals_length : (fs : List (List ℕ)) → length (decimals_of fs) ≡ length fs
 decimals_length [] = refl
@@ -69,29 +74,26 @@ record Rows (rows : List (List ℕ)) (width skip room given depth round rounds :
   some : 0 < rounds
   few : rounds ≤ 65536
   all : rounds ≡ round + length rows
-  clean : (i : ℕ) → i < length rows → row_refusal width skip (fields (get_or rows i [])) ≡ 0
+  clean : (i : ℕ) → i < length rows → row_judged width skip (fields (get_or rows i [])) ≡ Ok tt
   wide : (i : ℕ) → i < length rows → length (fields (get_or rows i [])) ≡ width
   each : length (signals_of skip rows) ≡ length rows * (width - skip)
   fits : rounds ≤ room
 
 rows_facts : (width skip given room : ℕ) (rows : List (List ℕ)) (round depth rounds : ℕ) → round ≤ 65536 → round ≤ room
-    → judge_rows width skip given room rows round ≡ Bank depth rounds → Rows rows width skip room given depth round rounds
+    → judge_rows width skip given room rows round ≡ sized depth rounds → Rows rows width skip room given depth round rounds
 rows_facts width skip given room [] round depth rounds h k e =
-    let p = past (eqb round 0) 10 0 depth rounds (Bank given round) e in
+    let p = past (eqb round 0) (record { refusal = NoRows; row = 0 }) (sized given round) (record { depth = depth; rounds = rounds }) e in
     let n : round ≡ 0 → ⊥ = eqb-false round 0 p.0 in
-    let b : Bank given round ≡ Bank depth rounds = p.1 in
-    let d : depth ≡ given = cc in
-    let r : rounds ≡ round = cc in
+    let d : depth ≡ given = sym (ap depth_in p.1) in
+    let r : rounds ≡ round = sym (ap rounds_in p.1) in
     record { same = d; some = omega arith; few = omega arith; all = omega arith; clean = λ i l. absurd (not-suc-le-zero l); wide = λ i l. absurd (not-suc-le-zero l); each = sym (zero-mul (width - skip)); fits = omega arith }
 rows_facts width skip given room (line ∷ rows) round depth rounds h k e =
     let rest = judge_rows width skip given room rows (suc round) in
-    let fuller = cond (leb room round) (Refused 16 (round + 2)) rest in
-    let p = past_number (row_refusal width skip (fields line)) (round + 2) depth rounds (cond (leb 65536 round) (Refused 11 (round + 2)) fuller) e in
-    let q = past (leb 65536 round) 11 (round + 2) depth rounds fuller p.1 in
-    let r = past (leb room round) 16 (round + 2) depth rounds rest q.1 in
-    let f = rows_facts width skip given room rows (suc round) depth rounds (leb-false 65536 round q.0) (leb-false room round r.0) r.1 in
+    let p = past_row (round_judged width skip room (fields line) round) (round + 2) rest (record { depth = depth; rounds = rounds }) e in
+    let r = round_facts width skip room (fields line) round p.0 in
+    let f = rows_facts width skip given room rows (suc round) depth rounds r.1.0 r.1.1 p.1 in
     let a : rounds ≡ suc round + length rows = f.all in
-    let first = row_signal width skip (fields line) (row_wide width skip (fields line) p.0) in
+    let first = row_signal width skip (fields line) (row_wide width skip (fields line) r.0) in
     let both : length (signals_of skip (line ∷ rows)) ≡ (width - skip) + length rows * (width - skip) =
     length-append (decimals_of (drop skip (fields line))) (signals_of skip rows) ∙ ap (λ (n : ℕ). n + length (signals_of skip rows)) first ∙ ap (λ (n : ℕ). (width - skip) + n) f.each in
     record {
@@ -99,21 +101,21 @@ rows_facts width skip given room (line ∷ rows) round depth rounds h k e =
       some = f.some;
       few = f.few;
       all = omega arith;
-      clean = all_rows (λ (l : List ℕ). row_refusal width skip (fields l) ≡ 0) line rows p.0 f.clean;
-      wide = all_rows (λ (l : List ℕ). length (fields l) ≡ width) line rows (row_wide width skip (fields line) p.0) f.wide;
+      clean = all_rows (λ (l : List ℕ). row_judged width skip (fields l) ≡ Ok tt) line rows r.0 f.clean;
+      wide = all_rows (λ (l : List ℕ). length (fields l) ≡ width) line rows (row_wide width skip (fields line) r.0) f.wide;
       each = both ∙ add_comm (width - skip) (length rows * (width - skip)) ∙ sym (suc-mul (length rows) (width - skip));
       fits = f.fits;
     }
 
-lines_facts : (text : List (List ℕ)) (commits signals curve depth rounds : ℕ) → judge_lines text commits signals curve ≡ Bank depth rounds
+lines_facts : (text : List (List ℕ)) (commits signals curve depth rounds : ℕ) → judge_lines text commits signals curve ≡ sized depth rounds
     → Accepted text commits signals curve depth rounds
 unfolding judge_lines
-lines_facts [] commits signals curve depth rounds e = absurd (refused_no 2 0 depth rounds e)
+lines_facts [] commits signals curve depth rounds e = absurd (no_answer (record { refusal = EmptyText; row = 0 }) (record { depth = depth; rounds = rounds }) e)
 lines_facts (header ∷ rows) commits signals curve depth rounds e =
     let names = fields header in
     let given = depth_of names in
     let room = room_for given commits signals in
-    let p = past_number (header_refusal names curve) 1 depth rounds (judge_rows (length names) (length names - given) given room rows 0) e in
+    let p = past_row (header_judged names curve) 1 (judge_rows (length names) (length names - given) given room rows 0) (record { depth = depth; rounds = rounds }) e in
     let f = rows_facts (length names) (length names - given) given room rows 0 depth rounds zero-le zero-le p.1 in
     let good = head_facts names curve p.0 in
     let a : rounds ≡ length rows = f.all ∙ zero-add (length rows) in
@@ -128,7 +130,7 @@ lines_facts (header ∷ rows) commits signals curve depth rounds e =
       some = f.some;
       few = f.few;
       all = a;
-      clean = subst (λ (d : ℕ). (i : ℕ) → i < length rows → row_refusal (length names) (length names - d) (fields (get_or rows i [])) ≡ 0) (sym g) f.clean;
+      clean = subst (λ (d : ℕ). (i : ℕ) → i < length rows → row_judged (length names) (length names - d) (fields (get_or rows i [])) ≡ Ok tt) (sym g) f.clean;
       wide = f.wide;
       each =
           ap (λ (d : ℕ). length (signals_of (length names - d) rows)) g
@@ -143,14 +145,14 @@ lines_facts (header ∷ rows) commits signals curve depth rounds e =
       curve_fits = subst (λ (d : ℕ). d < curve) (sym g) good.1.1;
     }
 
-pub accepted : (text : List ℕ) (commits signals curve depth rounds : ℕ) → judged text commits signals curve ≡ Bank depth rounds
+pub accepted : (text : List ℕ) (commits signals curve depth rounds : ℕ) → judged text commits signals curve ≡ sized depth rounds
     → Accepted (lines text) commits signals curve depth rounds
 unfolding judged
 accepted text commits signals curve depth rounds e = go (all_ascii text) e
   where
-    go : (z : Bool) → cond z (judge_lines (lines text) commits signals curve) (Refused 1 0) ≡ Bank depth rounds → Accepted (lines text) commits signals curve depth rounds
+    go : (z : Bool) → cond z (judge_lines (lines text) commits signals curve) (refused_in NotAscii 0) ≡ sized depth rounds → Accepted (lines text) commits signals curve depth rounds
     go true e = lines_facts (lines text) commits signals curve depth rounds e
-    go false e = absurd (refused_no 1 0 depth rounds e)
+    go false e = absurd (no_answer (record { refusal = NotAscii; row = 0 }) (record { depth = depth; rounds = rounds }) e)
 
 -- ---- its buffers
 

@@ -1,24 +1,20 @@
 -- The values of a bank's rows, and what the judge has found of a text that it takes for a bank.
-use Rattle.std.specs.Prelude.{ℕ, ◌-◌, ◌*◌, ◌≤◌, ◌<◌, ◌≡◌, false, List, [], ◌∷◌, ◌++◌, pos, Float, length, get_or, drop}
-use Rattle.std.specs.Float.{fin}
+use Rattle.std.specs.Prelude.{ℕ, ◌-◌, ◌*◌, ◌≤◌, ◌<◌, ◌≡◌, List, [], ◌∷◌, ◌++◌, Float, length, get_or, drop, Ok, Err}
+use Rattle.std.specs.Float.{binary64}
+use Rattle.std.specs.Float.Ieee.{of_bits}
 use Rattle.text.specs.Fields.{fields}
-use Rattle.numeral.specs.declared.answer.Whole.{Whole}
-use Rattle.numeral.specs.declared.answer.Whole.TheVariants.{Value as WholeValue, Malformed as NoWhole}
-use Rattle.decimals.specs.declared.Decimal.{Decimal}
-use Rattle.decimals.specs.declared.Decimal.TheVariants.{Value, Malformed, TooLong}
-use Rattle.numeral.specs.Spelling.{whole_of}
-use Rattle.decimals.specs.Decimals.{decimal_of}
-use Rattle.bank_judge.specs.Judge.{row_refusal}
+use Rattle.numeral.specs.Spelling.{Whole, whole_of}
+use Rattle.decimals.specs.Decimals.{Decimal, decimal_of}
+use Rattle.bank_judge.specs.Judge.{row_judged}
 
 -- a number's value; 0 where it has none, which is never met in a bank (Spelled of bank/proofs)
 abbrev pub whole_value : Whole → ℕ
-whole_value (WholeValue v) = v
-whole_value NoWhole = 0
+whole_value (Ok v) = v
+whole_value (Err refusal) = 0
 
 abbrev pub decimal_value : Decimal → Float
-decimal_value (Value x) = x
-decimal_value Malformed = fin false 0 (pos 0)
-decimal_value TooLong = fin false 0 (pos 0)
+decimal_value (Ok x) = x
+decimal_value (Err refusal) = of_bits binary64 0
 
 -- the first field of each row
 abbrev pub commits_of : List (List ℕ) → List ℕ
@@ -44,7 +40,7 @@ pub record Accepted (text : List (List ℕ)) (commits signals curve depth rounds
   pub few : rounds ≤ 65536
   pub all : rounds ≡ length (drop 1 text)
   pub clean : (i : ℕ) → i < length (drop 1 text)
-      → row_refusal (length (fields (get_or text 0 []))) (length (fields (get_or text 0 [])) - depth) (fields (get_or (drop 1 text) i [])) ≡ 0
+      → row_judged (length (fields (get_or text 0 []))) (length (fields (get_or text 0 [])) - depth) (fields (get_or (drop 1 text) i [])) ≡ Ok tt
   pub wide : (i : ℕ) → i < length (drop 1 text) → length (fields (get_or (drop 1 text) i [])) ≡ length (fields (get_or text 0 []))
   pub each : length (signals_of (length (fields (get_or text 0 [])) - depth) (drop 1 text)) ≡ rounds * depth
   pub commits_fit : rounds ≤ commits

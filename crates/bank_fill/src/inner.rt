@@ -1,5 +1,5 @@
 // What an accepted text leaves in the buffers. Nothing here refuses.
-ghost use Rattle.std.specs.Prelude.{◌≡◌, [], suc, ◌+◌, ◌-◌, ◌≤◌, min, length, get_or, drop, set};
+ghost use Rattle.std.specs.Prelude.{◌≡◌, [], suc, ◌+◌, ◌-◌, ◌≤◌, min, length, get_or, drop};
 ghost use Rattle.std.proofs.lemmas.List.Edits.{sets};
 ghost use Rattle.text.specs.Lines.{lines};
 ghost use Rattle.text.specs.Fields.{fields};
@@ -8,41 +8,26 @@ ghost use Rattle.bank_fill.specs.Fill.{whole_value, decimal_value, commits_of, d
 ghost use Rattle.bank_curve.specs.Curve.{curve_from};
 
 use bank_curve::inner;
-use decimals::Decimal;
-use numeral::answer::Whole;
+use refusals::Refusal;
 
 // A whole number's value, 0 for none.
 fn whole_value(field: &[u8]) -> u32
     ensures { result ≡ whole_value (whole_of field.now) }
 {
     match numeral::whole(field) {
-        Whole::Value(value) => value,
-        Whole::Malformed => 0,
+        Ok(value) => value,
+        Err(_) => 0,
     }
 }
 
 // A decimal's value, 0.0 for none.
-fn decimal_value(read: Decimal) -> f64
+fn decimal_value(read: Result<f64, Refusal>) -> f64
     ensures { result ≡ decimal_value read }
 {
     match read {
-        Decimal::Value(value) => value,
-        Decimal::Malformed => 0.0,
-        Decimal::TooLong => 0.0,
+        Ok(value) => value,
+        Err(_) => 0.0,
     }
-}
-
-// A whole number put at a place, and the next place: past the end nothing is put.
-fn put_whole(buffer: &mut [u32], at: usize, value: u32) -> usize
-    requires { at ≤ length buffer.old }
-    ensures next { result ≡ min (at + 1) (length buffer.old) }
-    ensures stored { buffer.new ≡ set buffer.old at value }
-{
-    if at < buffer.len() {
-        buffer[at] = value;
-        return at + 1;
-    }
-    at
 }
 
 // The decimals after the first `skip` fields put from a place on, and the next place.
@@ -54,6 +39,7 @@ fn fill_row(line: &[u8], skip: usize, signals: &mut [f64], from: usize) -> usize
     let mut rest = line;
     let mut left = skip;
     let mut at = from;
+    // no index is counted: each turn takes the rest behind a comma
     loop {
         let comma = if 0 < left {
             left -= 1;
@@ -61,7 +47,7 @@ fn fill_row(line: &[u8], skip: usize, signals: &mut [f64], from: usize) -> usize
         } else {
             let front = first_field::inner::decimal(rest);
             let read = front.decimal;
-            at = inner::put_decimal(signals, at, decimal_value(read));
+            at = inner::put(signals, at, decimal_value(read));
             front.length
         };
         if rest.len() <= comma {
@@ -80,12 +66,13 @@ fn fill_rows(rows: &[u8], skip: usize, commits: &mut [u32], signals: &mut [f64])
     let mut rest = rows;
     let mut round = 0usize;
     let mut at = 0usize;
+    // no index is counted: each turn takes the rest behind a line
     while 0 < rest.len() {
         let line = text::first_line(rest);
         let stop = line.stop;
         let next = line.next;
         let row = &rest[..stop];
-        round = put_whole(commits, round, whole_value(text::field(row, 0)));
+        round = inner::put(commits, round, whole_value(text::field(row, 0)));
         at = fill_row(row, skip, signals, at);
         rest = &rest[next..];
     }

@@ -11,9 +11,10 @@ use lib.Dec.{leb, ltb, eqb}
 use lib.ListN.{length, get_or, take, drop}
 use Rattle.std.specs.Prelude.{⊤, Result, Ok, Err}
 use Rattle.refusals.specs.declared.Refusal.{Refusal}
-use Rattle.refusals.specs.declared.Refusal.TheVariants.{NotAscii, EmptyText, WrongHeader, NoRows, Size, ShortBuffer}
+use Rattle.refusals.specs.declared.Refusal.TheVariants.{NotAscii, EmptyText, WrongHeader, FieldCount, NoRows, Size, ShortBuffer}
 use Rattle.refusals.specs.declared.RefusedRow.{RefusedRow}
 use Rattle.refusals.specs.Refusals.{Judgement, passed_if, and_then}
+use Rattle.laws.proofs.Both.{and_false}
 use Rattle.blocks.specs.Blocks.{find, all_ascii}
 use Rattle.text.specs.Lines.{starts_with, lines}
 use Rattle.text.specs.Fields.{fields, same_text}
@@ -82,6 +83,21 @@ signal_refused (suc k) m r f fs h e n = absurd (not-suc-le-zero h)
 pub signal_passed : (k : ℕ) (m : Judgement) (x : ⊤) (f : List ℕ) (fs : List (List ℕ)) → k ≤ 0 → m ≡ without_value (decimal_of f) → m ≡ Ok x → signals_judged (drop k (f ∷ fs)) ≡ signals_judged (drop k fs)
 signal_passed zero m x f fs h e n = ap (λ (j : Judgement). and_then j (signals_judged fs)) (sym e ∙ n)
 signal_passed (suc k) m x f fs h e n = absurd (not-suc-le-zero h)
+
+-- ---- a header whose first column is another, or without a name in `a`, and a row of another count of fields
+
+module _ (names : List (List ℕ)) (room : ℕ) where
+  pub head_name : same_text (get_or names 0 []) commits_name ≡ false → header_judged names room ≡ Err WrongHeader
+  unfolding header_judged
+  head_name e = rw e
+
+  pub head_none : depth_of names ≡ 0 → header_judged names room ≡ Err WrongHeader
+  unfolding header_judged
+  head_none e = rw (e, and_false (same_text (get_or names 0 []) commits_name))
+
+pub row_width : (width skip : ℕ) (row : List (List ℕ)) → (length row ≡ width → ⊥) → row_judged width skip row ≡ Err FieldCount
+unfolding row_judged
+row_width width skip row n = rw (ne_eqb (length row) width n)
 
 -- ---- the rows: m is what is said of the first line
 

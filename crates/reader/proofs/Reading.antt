@@ -1,5 +1,5 @@
 -- What a reader finds at a place, and that the lines it meets from the start are the lines of the text, and the fields those of the line. Assumes nothing.
-use mathlib.Core.Path.{◌≡◌, refl, sym, ap, ◌∙◌}
+use mathlib.Core.Path.{◌≡◌, refl, sym, ap, ◌∙◌, subst}
 use mathlib.Core.Bool.{Bool, true, false, ◌&&◌, cond}
 use mathlib.Core.List.{List, [], ◌∷◌}
 use Prim.Native.Nat.{ℕ, zero, suc, ◌+◌, ◌-◌, ◌≤◌, ◌<◌}
@@ -13,14 +13,15 @@ use Rattle.reader.specs.declared.Span.{Span}
 use Rattle.blocks.specs.Blocks.{find}
 use Rattle.text.specs.Lines.{lines, first_line, after_line}
 use Rattle.text.specs.Fields.{fields}
-use Rattle.reader.specs.Reading.{between, none, span, held, line_at, field_to, field_at, lines_from, fields_from}
+use Rattle.std.specs.Prelude.{Option, Some, None, is_some}
+use Rattle.reader.specs.Reading.{between, span, held, met, line_at, field_to, field_at, lines_from, fields_from}
 use Rattle.blocks.proofs.Finding.{find_le}
 use Rattle.text.proofs.Laws.{lines_first, first_take, after_length, after_drop, fields_last, fields_more}
 use Rattle.text.proofs.Walk.{line_stop}
 
 -- ---- the line at a place
 
-pub no_line_at : (text : List ℕ) (at : ℕ) → length text ≤ at → none at ≡ line_at text at
+pub no_line_at : (text : List ℕ) (at : ℕ) → length text ≤ at → None ≡ line_at text at
 unfolding line_at
 no_line_at text at h = simp (le-ltb at (length text) h)
 
@@ -30,32 +31,32 @@ past_line text at h = omega (arith, length-drop at text, after_length (drop at t
 
 -- by what the first line of the rest is: it has stop bytes, and the next one starts next bytes on
 pub line_found : (text : List ℕ) (at stop next : ℕ) → at < length text → let s = take (length text - at) (drop at text) in
-    stop ≡ length (first_line s) → next ≡ length s - length (after_line s) → span at (at + stop) (at + next) ≡ line_at text at
+    stop ≡ length (first_line s) → next ≡ length s - length (after_line s) → Some (span at (at + stop) (at + next)) ≡ line_at text at
 unfolding line_at
 line_found text at stop next h e f =
     let whole = part at text in
     let stops : stop ≡ length (first_line (drop at text)) = e ∙ ap (λ (r : List ℕ). length (first_line r)) whole in
     let goes_on : at + next ≡ length text - length (after_line (drop at text)) =
     ap (λ (n : ℕ). at + n) (f ∙ ap (λ (r : List ℕ). length r - length (after_line r)) whole) ∙ past_line text at h in
-    simp (lt-ltb at (length text) h) (λ i. span at (at + stops i) (goes_on i))
+    simp (lt-ltb at (length text) h) (λ i. Some (span at (at + stops i) (goes_on i)))
 
 -- ---- the field at a place
 
-pub no_field_past : (text : List ℕ) (at stop : ℕ) → stop < at → none at ≡ field_at text at stop
+pub no_field_past : (text : List ℕ) (at stop : ℕ) → stop < at → None ≡ field_at text at stop
 unfolding field_at
 no_field_past text at stop h = simp (lt-leb at stop h)
 
-pub no_field_outside : (text : List ℕ) (at stop : ℕ) → length text < stop → none at ≡ field_at text at stop
+pub no_field_outside : (text : List ℕ) (at stop : ℕ) → length text < stop → None ≡ field_at text at stop
 unfolding field_at
 no_field_outside text at stop h = go (leb at stop) (leb stop (length text)) (lt-leb stop (length text) h)
   where
-    go : (z w : Bool) → w ≡ false → none at ≡ cond (z && w) (field_to at (find 44 (between at stop text))) (none at)
-    go true w e = sym (ap (λ (y : Bool). cond y (field_to at (find 44 (between at stop text))) (none at)) e)
+    go : (z w : Bool) → w ≡ false → None ≡ cond (z && w) (Some (field_to at (find 44 (between at stop text)))) None
+    go true w e = sym (ap (λ (y : Bool). cond y (Some (field_to at (find 44 (between at stop text)))) None) e)
     go false w e = refl
 
-pub field_found : (text : List ℕ) (at stop n : ℕ) → at ≤ stop → stop ≤ length text → n ≡ find 44 (between at stop text) → field_to at n ≡ field_at text at stop
+pub field_found : (text : List ℕ) (at stop n : ℕ) → at ≤ stop → stop ≤ length text → n ≡ find 44 (between at stop text) → Some (field_to at n) ≡ field_at text at stop
 unfolding field_at
-field_found text at stop n h k e = simp (le-leb at stop h, le-leb stop (length text) k) (ap (field_to at) e)
+field_found text at stop n h k e = simp (le-leb at stop h, le-leb stop (length text) k) (ap (λ (k : ℕ). Some (field_to at k)) e)
 
 between_length : (text : List ℕ) (at stop : ℕ) → stop ≤ length text → length (between at stop text) ≡ stop - at
 between_length text at stop h = length-take-le (stop - at) (drop at text) (omega (arith, length-drop at text))
@@ -70,8 +71,8 @@ module _ (text : List ℕ) (at : ℕ) where
   abbrev left : List ℕ
   left = drop at text
 
-  abbrev met : Span
-  met = span at (at + length (first_line left)) (length text - length (after_line left))
+  abbrev here : Span
+  here = span at (at + length (first_line left)) (length text - length (after_line left))
 
   none_left : length text ≤ at → lines left ≡ []
   none_left h = ap lines (drop_of_length-le text h)
@@ -79,56 +80,57 @@ module _ (text : List ℕ) (at : ℕ) where
   some_left : at < length text → lines left ≡ first_line left ∷ lines (after_line left)
   some_left h = lines_first left (omega (arith, length-drop at text))
 
-  met_held : held text met ≡ first_line left
-  met_held = let back : at + length (first_line left) - at ≡ length (first_line left) = omega arith in ap (λ (n : ℕ). take n left) back ∙ first_take left
+  here_held : held text here ≡ first_line left
+  here_held = let back : at + length (first_line left) - at ≡ length (first_line left) = omega arith in ap (λ (n : ℕ). take n left) back ∙ first_take left
 
-  met_next : at < length text → drop met.next text ≡ after_line left
-  met_next h = ap (λ (n : ℕ). drop n text) (sym (past_line text at h)) ∙ sym (drop-drop (length left - length (after_line left)) at text) ∙ after_drop left
+  here_next : at < length text → drop here.next text ≡ after_line left
+  here_next h = ap (λ (n : ℕ). drop n text) (sym (past_line text at h)) ∙ sym (drop-drop (length left - length (after_line left)) at text) ∙ after_drop left
 
-  pub line_there : (line_at text at).found ≡ ltb 0 (length (lines left))
+  pub line_there : is_some (line_at text at) ≡ ltb 0 (length (lines left))
   unfolding line_at
   line_there = go (ltb at (length text)) refl
     where
-      go : (t : Bool) → ltb at (length text) ≡ t → (cond t met (none at)).found ≡ ltb 0 (length (lines left))
+      go : (t : Bool) → ltb at (length text) ≡ t → is_some (cond t (Some here) None) ≡ ltb 0 (length (lines left))
       go true e = sym (ap (λ (ls : List (List ℕ)). ltb 0 (length ls)) (some_left (ltb-true _ _ e)) ∙ lt-ltb 0 (suc (length (lines (after_line left)))) (omega arith))
       go false e = sym (ap (λ (ls : List (List ℕ)). ltb 0 (length ls)) (none_left (ltb-false _ _ e)))
 
-  pub line_held : held text (line_at text at) ≡ get_or (lines left) 0 []
+  -- a line that is there is the first of those from the place on, the others start at the next place, and it ends inside the text
+  pub line_held : (s : Span) → line_at text at ≡ Some s → lines left ≡ held text s ∷ lines (drop s.next text)
   unfolding line_at
-  line_held = go (ltb at (length text)) refl
+  line_held s = go (ltb at (length text)) refl
     where
-      go : (t : Bool) → ltb at (length text) ≡ t → held text (cond t met (none at)) ≡ get_or (lines left) 0 []
-      go true e = met_held ∙ sym (ap (λ (ls : List (List ℕ)). get_or ls 0 []) (some_left (ltb-true _ _ e)))
-      go false e =
-          let zero_bytes : at - at ≡ 0 = omega arith in
-          ap (λ (n : ℕ). take n left) zero_bytes ∙ sym (ap (λ (ls : List (List ℕ)). get_or ls 0 []) (none_left (ltb-false _ _ e)))
+      go : (t : Bool) → ltb at (length text) ≡ t → ◌≡◌ {A = Option Span} (cond t (Some here) None) (Some s) → lines left ≡ held text s ∷ lines (drop s.next text)
+      go true e f =
+          let there = ltb-true at (length text) e in
+          let same : here ≡ s = cc in
+          subst (λ (x : Span). lines left ≡ held text x ∷ lines (drop x.next text)) same
+          (some_left there ∙ (λ i. sym here_held i ∷ lines (sym (here_next there) i)))
+      go false e f = let z : ◌≡◌ {A = ℕ} 0 1 = cc in absurd (omega arith)
 
-  pub line_next_lines : lines (drop (line_at text at).next text) ≡ drop 1 (lines left)
+  pub line_inside : (s : Span) → line_at text at ≡ Some s → (at ≤ s.stop) × ((s.stop ≤ length text) × (at < s.next))
   unfolding line_at
-  line_next_lines = go (ltb at (length text)) refl
+  line_inside s = go (ltb at (length text)) refl
     where
-      go : (t : Bool) → ltb at (length text) ≡ t → lines (drop (cond t met (none at)).next text) ≡ drop 1 (lines left)
-      go true e = ap lines (met_next (ltb-true _ _ e)) ∙ sym (ap (λ (ls : List (List ℕ)). drop 1 ls) (some_left (ltb-true _ _ e)))
-      go false e = none_left (ltb-false _ _ e) ∙ sym (ap (λ (ls : List (List ℕ)). drop 1 ls) (none_left (ltb-false _ _ e)))
-
-  -- a line that is there ends inside the text, and the next one starts further on
-  pub line_inside : at < length text → (at ≤ (line_at text at).stop) × ((line_at text at).stop ≤ length text) × (at < (line_at text at).next)
-  unfolding line_at
-  line_inside h =
-      let stops : length (first_line left) ≤ length left = line_stop left (length (first_line left)) (length left - length (after_line left)) refl refl in
-      simp (lt-ltb at (length text) h) (omega arith, omega (arith, length-drop at text), omega (arith, length-drop at text, after_length left))
+      go : (t : Bool) → ltb at (length text) ≡ t → ◌≡◌ {A = Option Span} (cond t (Some here) None) (Some s) → (at ≤ s.stop) × ((s.stop ≤ length text) × (at < s.next))
+      go true e f =
+          let there = ltb-true at (length text) e in
+          let stops : length (first_line left) ≤ length left = line_stop left (length (first_line left)) (length left - length (after_line left)) refl refl in
+          let same : here ≡ s = cc in
+          subst (λ (x : Span). (at ≤ x.stop) × ((x.stop ≤ length text) × (at < x.next))) same
+          (omega arith, (omega (arith, length-drop at text), omega (arith, length-drop at text, after_length left)))
+      go false e f = let z : ◌≡◌ {A = ℕ} 0 1 = cc in absurd (omega arith)
 
 -- ---- the lines that a reader meets are the lines of the text
 
 -- one line more
 line_met : (n : ℕ) (text : List ℕ) (at : ℕ) → ((next : ℕ) → length text ≤ next + n → lines_from n text next ≡ lines (drop next text)) → length text ≤ at + suc n
     → (t : Bool) → ltb at (length text) ≡ t
-    → let l = cond t (met text at) (none at) in cond l.found (held text l ∷ lines_from n text l.next) [] ≡ lines (drop at text)
+    → met text (λ (next : ℕ). lines_from n text next) (cond t (Some (here text at)) None) ≡ lines (drop at text)
 line_met n text at rest h false e = sym (none_left text at (ltb-false _ _ e))
 line_met n text at rest h true e =
     let there = ltb-true at (length text) e in
-    let enough : length text ≤ (met text at).next + n = omega (arith, length-drop at text, after_length (drop at text)) in
-    (λ i. met_held text at i ∷ (rest (met text at).next enough ∙ ap lines (met_next text at there)) i) ∙ sym (some_left text at there)
+    let enough : length text ≤ (here text at).next + n = omega (arith, length-drop at text, after_length (drop at text)) in
+    (λ i. here_held text at i ∷ (rest (here text at).next enough ∙ ap lines (here_next text at there)) i) ∙ sym (some_left text at there)
 
 -- from a place on, where n reaches the text's end
 pub lines_from_lem : (n : ℕ) (text : List ℕ) (at : ℕ) → length text ≤ at + n → lines_from n text at ≡ lines (drop at text)

@@ -3,10 +3,9 @@ use mathlib.Core.List.{List}
 use mathlib.Core.Path.{◌≡◌}
 use Prim.Native.Nat.{ℕ}
 use lib.Ieee.{Float}
-use Rattle.bank.specs.Acceptance.{expected_accepted}
+use Rattle.bank.specs.Acceptance.{Expected, expected_accepted}
 use Rattle.bank.specs.Read.{Outcome, bank_read}
-use Rattle.bank.specs.declared.Expected.{Expected}
-use Rattle.bank_judge.specs.declared.Answer.{Answer}
+use Rattle.bank_judge.specs.Judge.{Answer}
 use Rattle.unique.specs.Only.{OnlyFour, OnlyOne}
 use Rattle.unique.proofs.Law.{four_once, once}
 

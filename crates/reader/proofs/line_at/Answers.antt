@@ -1,5 +1,4 @@
 -- `reader::line_at` meets its contract: there is no line at the text's end, and else it is the first line of what is left. Assumes nothing.
-use mathlib.Core.Path.{◌∙◌}
 use Prim.Native.Nat.{◌-◌}
 use native.Mathlib.Omega.{arith}
 use lib.ListN.{length, take, drop}
@@ -9,7 +8,7 @@ use Rattle.text.proofs.Walk.{line_stop}
 use Rattle.reader.proofs.line_at.Goals as goal
 
 pub returns-then-text-at : goal.returns-then-text-at
-returns-then-text-at c = c.nothing.ensures ∙ no_line_at c.args.text.now c.args.at c.if-text-at.true
+returns-then-text-at c = no_line_at c.args.text.now c.args.at c.if-text-at.true
 
 pub overflow_add-result : goal.overflow_add-result
 overflow_add-result c =

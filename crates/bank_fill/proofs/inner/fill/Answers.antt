@@ -1,4 +1,4 @@
--- `bank::filling::fill` meets its contract: the first line is the header, and the lines after it the rows. Assumes nothing.
+-- `bank_fill::inner::fill` meets its contract: the first line is the header, and the lines after it the rows. Assumes nothing.
 use Prim.Native.Nat.{◌<◌}
 use lib.ListN.{take}
 use lib.Seq.{length-sets}

@@ -1,4 +1,4 @@
--- `bank::filling::fill_row` meets its contract: at each field what is to be stored is that of the fields from there on. Assumes nothing.
+-- `bank_fill::inner::fill_row` meets its contract: at each field what is to be stored is that of the fields from there on. Assumes nothing.
 use mathlib.Core.Path.{◌≡◌, sym, ap, ◌∙◌, subst}
 use mathlib.Core.List.{List, [], ◌∷◌}
 use Prim.Native.Nat.{ℕ, zero, suc, ◌≤◌, ◌+◌}
@@ -49,7 +49,7 @@ passed c fs e =
           (ap decimals_of (drop_more l.left f fs w.if-left-gt0.true ∙ ap (λ (k : ℕ). drop k fs) (sym w.left-is)))
           opened
       | else-left-gt0 w ↦
-          storing_next all a.signals.now a.from l.signals l.at c.if-left-gt0.signals c.if-left-gt0.at w.decimal_value.result left (w.signals-is ∙ w.put_decimal-at.ensures.stored) (w.at-is ∙ w.put_decimal-at.ensures.next)
+          storing_next all a.signals.now a.from l.signals l.at c.if-left-gt0.signals c.if-left-gt0.at w.decimal_value.result left (w.signals-is ∙ w.put-at.ensures.stored) (w.at-is ∙ w.put-at.ensures.next)
           (subst (λ (r : List Float). Storing all a.signals.now a.from l.signals l.at r)
           (first_decimal l.left c.if-left-gt0.left f fs w.decimal_value.result w.if-left-gt0.false w.left-is
           (w.decimal_value.ensures ∙ ap decimal_value (w.decimal-front.ensures.decimal ∙ ap (λ (k : ℕ). decimal_of (take k s)) (sym (w.comma-is ∙ w.decimal-front.ensures.length)))))

@@ -1,4 +1,4 @@
--- `bank::filling::fill_row` meets its contract: at each field what is to be stored is that of the fields from there on. Assumes nothing.
+-- `bank_fill::inner::fill_row` meets its contract: at each field what is to be stored is that of the fields from there on. Assumes nothing.
 use mathlib.Core.List.{List}
 use Prim.Native.Nat.{ℕ, ◌≤◌}
 use lib.Ieee.{Float}

@@ -1,4 +1,4 @@
--- `bank::filling::fill_rows` meets its contract: at each line what is to be stored is that of the lines from there on. Assumes nothing.
+-- `bank_fill::inner::fill_rows` meets its contract: at each line what is to be stored is that of the lines from there on. Assumes nothing.
 use mathlib.Core.Path.{◌≡◌, sym, ap, ◌∙◌, subst}
 use mathlib.Core.List.{List, [], ◌∷◌}
 use Prim.Native.Nat.{ℕ, ◌-◌, zero-le}
@@ -53,7 +53,7 @@ loop-rest-preserved c =
     let row = take c.first_line-line.result.stop s in
     let rest = lines (take (length s - c.first_line-line.result.next) (drop c.first_line-line.result.next s)) in
     let e : lines s ≡ row ∷ rest = line_first s c.first_line-line.result.stop c.first_line-line.result.next c.first_line-line.ensures.stop c.first_line-line.ensures.next c.loop-rest-test.true in (
-      storing_next (commits_of (lines a.rows.now)) a.commits.now 0 l.commits l.round c.put_whole-round.new.buffer c.put_whole-round.result v.result (commits_of rest) c.put_whole-round.ensures.stored c.put_whole-round.ensures.next
+      storing_next (commits_of (lines a.rows.now)) a.commits.now 0 l.commits l.round c.put-round.new.buffer c.put-round.result v.result (commits_of rest) c.put-round.ensures.stored c.put-round.ensures.next
           (subst (Storing (commits_of (lines a.rows.now)) a.commits.now 0 l.commits l.round) (next_commit (lines s) row first.result.now rest v.result e first.ensures v.ensures) l.invariant.0),
       storing_more (signals_of a.skip (lines a.rows.now)) a.signals.now 0 l.signals l.at c.fill_row-at.new.signals c.fill_row-at.result (decimals_of (drop a.skip (fields row))) (signals_of a.skip rest) c.fill_row-at.ensures.stored c.fill_row-at.ensures.next
           (subst (Storing (signals_of a.skip (lines a.rows.now)) a.signals.now 0 l.signals l.at) (ap (signals_of a.skip) e) l.invariant.1),

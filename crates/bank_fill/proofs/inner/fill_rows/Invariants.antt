@@ -1,4 +1,4 @@
--- `bank::filling::fill_rows` meets its contract: at each line what is to be stored is that of the lines from there on. Assumes nothing.
+-- `bank_fill::inner::fill_rows` meets its contract: at each line what is to be stored is that of the lines from there on. Assumes nothing.
 use Prim.Native.Nat.{◌-◌}
 use lib.ListN.{length}
 use Rattle.text.specs.Lines.{lines}
