@@ -6,7 +6,7 @@ use Prim.Native.Nat.{ℕ, zero, suc, ◌+◌, ◌-◌, ◌≤◌, ◌<◌, zero-
 use native.Mathlib.Nat.{not-suc-le-zero, le_trans, le-suc}
 use native.Mathlib.Numerals.{add-one}
 use native.Mathlib.Omega.{arith}
-use borrow.Author.Tests.{eq-eqb, ne_eqb, eqb-true, eqb-false, leb-true, ltb-true}
+use borrow.Author.Tests.{le-leb, lt-leb, lt-ltb, le-ltb, eq-eqb, ne_eqb, eqb-true, eqb-false, leb-true, ltb-true}
 use lib.Dec.{leb, ltb, eqb}
 use lib.ListN.{length, get_or, take, drop}
 use Rattle.std.specs.Prelude.{⊤, Result, Ok, Err}
@@ -20,6 +20,7 @@ use Rattle.text.specs.Lines.{starts_with, lines}
 use Rattle.text.specs.Fields.{fields, same_text}
 use Rattle.text.proofs.Walk.{drop_more}
 use Rattle.first_field.specs.Front.{field_length, length_judged}
+use Rattle.numeral.specs.Spelling.{whole_of}
 use Rattle.decimals.specs.Decimals.{Decimal, decimal_of, without_value}
 use Rattle.bank_judge.specs.Judge.{Answer, sized, refused_in, commits_name, depth_of, header_judged, signals_judged, row_judged, round_judged, at_row, unless, judge_rows, room_for, judge_lines, judged}
 
@@ -84,7 +85,22 @@ pub signal_passed : (k : ℕ) (m : Judgement) (x : ⊤) (f : List ℕ) (fs : Lis
 signal_passed zero m x f fs h e n = ap (λ (j : Judgement). and_then j (signals_judged fs)) (sym e ∙ n)
 signal_passed (suc k) m x f fs h e n = absurd (not-suc-le-zero h)
 
--- ---- a header whose first column is another, or without a name in `a`, and a row of another count of fields
+-- ---- a row
+
+module _ (width skip : ℕ) (row : List (List ℕ)) where
+  pub row_width : (length row ≡ width → ⊥) → row_judged width skip row ≡ Err FieldCount
+  unfolding row_judged
+  row_width n = rw (ne_eqb (length row) width n)
+
+  pub row_whole : (r : Refusal) → length row ≡ width → without_value (whole_of (get_or row 0 [])) ≡ Err r → row_judged width skip row ≡ Err r
+  unfolding row_judged
+  row_whole r l e = rw (eq-eqb (length row) width l) (ap (λ (j : Judgement). and_then j (signals_judged (drop skip row))) e)
+
+  pub row_signals : length row ≡ width → without_value (whole_of (get_or row 0 [])) ≡ Ok tt → row_judged width skip row ≡ signals_judged (drop skip row)
+  unfolding row_judged
+  row_signals l e = rw (eq-eqb (length row) width l) (ap (λ (j : Judgement). and_then j (signals_judged (drop skip row))) e)
+
+-- ---- the header
 
 module _ (names : List (List ℕ)) (room : ℕ) where
   pub head_name : same_text (get_or names 0 []) commits_name ≡ false → header_judged names room ≡ Err WrongHeader
@@ -95,9 +111,22 @@ module _ (names : List (List ℕ)) (room : ℕ) where
   unfolding header_judged
   head_none e = rw (e, and_false (same_text (get_or names 0 []) commits_name))
 
-pub row_width : (width skip : ℕ) (row : List (List ℕ)) → (length row ≡ width → ⊥) → row_judged width skip row ≡ Err FieldCount
-unfolding row_judged
-row_width width skip row n = rw (ne_eqb (length row) width n)
+  module _ (same : same_text (get_or names 0 []) commits_name ≡ true) (some : 0 < depth_of names) where
+    pub head_wide : 128 < length names → header_judged names room ≡ Err Size
+    unfolding header_judged
+    head_wide h = rw (same, lt-ltb 0 (depth_of names) some, lt-leb (length names) 128 h)
+
+    pub head_deep : length names ≤ 128 → 64 < depth_of names → header_judged names room ≡ Err Size
+    unfolding header_judged
+    head_deep w h = rw (same, lt-ltb 0 (depth_of names) some, le-leb (length names) 128 w, lt-leb (depth_of names) 64 h)
+
+    pub head_short : length names ≤ 128 → depth_of names ≤ 64 → room ≤ depth_of names → header_judged names room ≡ Err ShortBuffer
+    unfolding header_judged
+    head_short w d h = rw (same, lt-ltb 0 (depth_of names) some, le-leb (length names) 128 w, le-leb (depth_of names) 64 d, le-ltb (depth_of names) room h)
+
+    pub head_good : length names ≤ 128 → depth_of names ≤ 64 → depth_of names < room → header_judged names room ≡ Ok tt
+    unfolding header_judged
+    head_good w d h = rw (same, lt-ltb 0 (depth_of names) some, le-leb (length names) 128 w, le-leb (depth_of names) 64 d, lt-ltb (depth_of names) room h)
 
 -- ---- the rows: m is what is said of the first line
 
@@ -117,6 +146,15 @@ round_facts width skip room row round = go (row_judged width skip row) (ltb roun
     go (Ok y) true false f g e = absurd (no_answer ShortBuffer tt e)
     go (Ok y) false b f g e = absurd (no_answer Size tt e)
     go (Err refusal) a b f g e = absurd (no_answer refusal tt e)
+
+module _ (width skip room : ℕ) (row : List (List ℕ)) (round : ℕ) (passes : row_judged width skip row ≡ Ok tt) where
+  round_many : 65536 ≤ round → round_judged width skip room row round ≡ Err Size
+  unfolding round_judged
+  round_many h = rw (passes, le-ltb round 65536 h)
+
+  round_full : round < 65536 → room ≤ round → round_judged width skip room row round ≡ Err ShortBuffer
+  unfolding round_judged
+  round_full h k = rw (passes, lt-ltb round 65536 h, le-ltb round room k)
 
 module _ (width skip depth room : ℕ) where
   pub rows_none : (rows : List (List ℕ)) (round : ℕ) → rows ≡ [] → round ≡ 0 → judge_rows width skip depth room rows round ≡ refused_in NoRows 0
@@ -143,6 +181,18 @@ module _ (width skip depth room : ℕ) where
     rows_few x n =
         let j = round_judged width skip room (fields line) round in
         (round_facts width skip room (fields line) round (row_passed j (round + 2) x (sym f ∙ n))).1.0
+
+  -- past a row that is not refused
+  module _ (rows : List (List ℕ)) (line : List ℕ) (rest : List (List ℕ)) (round : ℕ) (e : rows ≡ line ∷ rest) (passes : row_judged width skip (fields line) ≡ Ok tt) where
+    pub rows_many : 65536 ≤ round → judge_rows width skip depth room rows round ≡ refused_in Size (round + 2)
+    rows_many h =
+        rows_refused rows line rest round (at_row (round_judged width skip room (fields line) round) (round + 2)) e refl (record { refusal = Size; row = round + 2 })
+        (ap (λ (j : Judgement). at_row j (round + 2)) (round_many width skip room (fields line) round passes h))
+
+    pub rows_full : round < 65536 → room ≤ round → judge_rows width skip depth room rows round ≡ refused_in ShortBuffer (round + 2)
+    rows_full h k =
+        rows_refused rows line rest round (at_row (round_judged width skip room (fields line) round) (round + 2)) e refl (record { refusal = ShortBuffer; row = round + 2 })
+        (ap (λ (j : Judgement). at_row j (round + 2)) (round_full width skip room (fields line) round passes h k))
 
 -- ---- the header and the rows
 
