@@ -55,13 +55,15 @@ counted false false k R = rw (ne_eqb (k + 0 + 1) 0 (λ e. let w : ⊥ = omega ar
 
 module _ (values : List Float) (d faults : ℕ) (inv : all_of is_survival values ≡ (eqb faults 0 && all_of is_survival (drop d values))) where
   pub faults_next : (a b : ℕ) → d < length values → a ≡ cond (lt (get_or values d nan) f0) 1 0 → b ≡ cond (le (get_or values d nan) f1) 0 1
-      → all_of is_survival values ≡ (eqb (faults + a + b) 0 && all_of is_survival (drop (d + 1) values))
+      → all_of is_survival values ≡ (eqb (faults + (a + b)) 0 && all_of is_survival (drop (d + 1) values))
   faults_next a b h u v =
       let x = get_or values d nan in
       let R = all_of is_survival (drop (d + 1) values) in
+      let sum : faults + a + b ≡ faults + (a + b) = omega arith in
       inv ∙ ap (λ (z : Bool). eqb faults 0 && z) (all_next is_survival nan (is_survival x) values d h refl)
       ∙ ap (λ (z : Bool). eqb faults 0 && (z && R)) (survival_is x) ∙ counted (lt x f0) (le x f1) faults R
       ∙ ap (λ (n : ℕ). eqb (faults + n + cond (le x f1) 0 1) 0 && R) (sym u) ∙ ap (λ (n : ℕ). eqb (faults + a + n) 0 && R) (sym v)
+      ∙ ap (λ (n : ℕ). eqb n 0 && R) sum
 
   pub faults_end : length values ≤ d → eqb faults 0 ≡ all_of is_survival values
   faults_end h = sym (and_true (eqb faults 0)) ∙ ap (λ (z : Bool). eqb faults 0 && z) (sym (all_end is_survival nan values d h)) ∙ sym inv

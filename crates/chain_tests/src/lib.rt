@@ -8,17 +8,12 @@ ghost use Rattle.float.specs.Range.{in_range};
 ghost use Rattle.chains.specs.Tests.{all_of, is_survival, is_price};
 ghost use Rattle.chains.specs.Expected.{are_chains};
 
-use chains::inner;
-
 // Whether all are finite.
 pub fn are_finite(values: &[f64]) -> bool
     ensures { result ≡ all_of is_finite values.now }
 {
-    let mut d = 0usize;
-    while d < values.len() {
-        if float::is_finite(values[d]) {
-            d += 1;
-        } else {
+    for x in values {
+        if !float::is_finite(*x) {
             return false;
         }
     }
@@ -32,10 +27,8 @@ pub fn are_survivals(values: &[f64]) -> bool
     ensures { result ≡ all_of is_survival values.now }
 {
     let mut faults = 0u64;
-    let mut d = 0usize;
-    while d < values.len() {
-        faults = faults + below_zero(values[d]) + past_one(values[d]);
-        d += 1;
+    for x in values {
+        faults += below_zero(*x) + past_one(*x);
     }
     faults == 0
 }
@@ -85,10 +78,8 @@ pub fn are_up_to(values: &[f64], high: f64) -> bool
     ensures { result ≡ all_of (in_range f0 high) values.now }
 {
     let mut faults = 0u64;
-    let mut d = 0usize;
-    while d < values.len() {
-        faults = faults | outside(values[d], high);
-        d += 1;
+    for x in values {
+        faults |= outside(*x, high);
     }
     faults < 0x8000_0000_0000_0000
 }
@@ -98,10 +89,8 @@ pub fn are_prices(values: &[f64]) -> bool
     ensures { result ≡ all_of is_price values.now }
 {
     let mut faults = 0u64;
-    let mut d = 0usize;
-    while d < values.len() {
-        faults = faults | unpriced(values[d]);
-        d += 1;
+    for x in values {
+        faults |= unpriced(*x);
     }
     faults < 0x8000_0000_0000_0000
 }
@@ -111,15 +100,12 @@ pub fn are_chains(chains: &[f64], lengths: &[u32], gamma: u32) -> bool
     requires { length lengths.now * 64 ≤ length chains.now }
     ensures { result ≡ are_chains gamma lengths.now chains.now }
 {
-    let mut k = 0usize;
-    while k < lengths.len() {
-        let at = k * 64;
-        let long = lengths[k];
-        k += 1;
-        if 64 < long {
+    for (k, long) in lengths.iter().enumerate() {
+        if 64 < *long {
             return false;
         }
-        let end = at + inner::smaller(gamma, long) as usize;
+        let at = k * 64;
+        let end = at + gamma.min(*long) as usize;
         if !are_survivals(&chains[at..end]) {
             return false;
         }

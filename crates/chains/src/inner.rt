@@ -1,5 +1,5 @@
 // What a batch's chains give, for callers that have judged them.
-ghost use Rattle.std.specs.Prelude.{◌≡◌, ◌≤◌, ◌<◌, ◌+◌, ◌*◌, min, length, drop};
+ghost use Rattle.std.specs.Prelude.{◌≡◌, ◌≤◌, ◌<◌, ◌+◌, ◌*◌, length, drop};
 ghost use Rattle.chains.specs.Fours.{with_four, four_reach};
 ghost use Rattle.chains.specs.Survival.{survival_chain};
 ghost use Rattle.chains.specs.Expected.{with_chain, sums_with, expected_over, Fits};
@@ -11,20 +11,11 @@ pub fn chain(signal: [f64; 64], length: usize) -> [f64; 64]
 {
     let mut out = [0.0; 64];
     let mut s = 1.0;
-    let mut d = 0usize;
-    while d < length {
-        s = s * float::clamp_unit(signal[d]);
+    for d in 0..length {
+        s *= float::clamp_unit(signal[d]);
         out[d] = s;
-        d += 1;
     }
     out
-}
-
-// The smaller of two numbers.
-pub fn smaller(a: u32, b: u32) -> u32
-    ensures { result ≡ min a b }
-{
-    if a < b { a } else { b }
 }
 
 // One chain added to the sums: depth d + 1 gains the sum of the chain's first d + 1 entries.
@@ -33,11 +24,9 @@ fn add_chain(chain: &[f64], sums: &mut [f64])
     ensures { sums.new ≡ with_chain chain.now sums.old }
 {
     let mut acc = 0.0;
-    let mut d = 0usize;
-    while d < chain.len() {
-        acc = acc + chain[d];
-        d += 1;
-        sums[d] = sums[d] + acc;
+    for (d, s) in chain.iter().enumerate() {
+        acc += *s;
+        sums[d + 1] += acc;
     }
 }
 
@@ -53,14 +42,12 @@ fn add_four(block: &[f64], width: usize, sums: &mut [f64])
     let mut q = 0.0;
     let mut r = 0.0;
     let mut s = 0.0;
-    let mut d = 0usize;
-    while d < width {
-        p = p + block[d];
-        q = q + block[d + 64];
-        r = r + block[d + 128];
-        s = s + block[d + 192];
-        d += 1;
-        sums[d] = sums[d] + p + q + r + s;
+    for d in 0..width {
+        p += block[d];
+        q += block[d + 64];
+        r += block[d + 128];
+        s += block[d + 192];
+        sums[d + 1] = sums[d + 1] + p + q + r + s;
     }
 }
 
@@ -69,16 +56,10 @@ fn reach_gamma(lengths: &[u32], k: usize, gamma: u32) -> bool
     requires { k + 4 ≤ length lengths.now }
     ensures { result ≡ four_reach gamma k lengths.now }
 {
-    if lengths[k] < gamma {
-        return false;
-    }
-    if lengths[k + 1] < gamma {
-        return false;
-    }
-    if lengths[k + 2] < gamma {
-        return false;
-    }
-    gamma <= lengths[k + 3]
+    gamma <= lengths[k]
+        && gamma <= lengths[k + 1]
+        && gamma <= lengths[k + 2]
+        && gamma <= lengths[k + 3]
 }
 
 // The chains added to the sums four at a time, from the first on, as long as the next four reach gamma: how many were added.
@@ -91,14 +72,11 @@ fn add_fours(chains: &[f64], lengths: &[u32], gamma: u32, sums: &mut [f64]) -> u
     ensures sums_after { sums_with gamma (drop result lengths.now) (drop (result * 64) chains.now) sums.new ≡ sums_with gamma lengths.now chains.now sums.old }
 {
     let width = gamma as usize;
-    let mut k = 0usize;
-    while k + 4 <= lengths.len() {
-        if !reach_gamma(lengths, k, gamma) {
-            return k;
-        }
+    let mut k = 0;
+    // no `for`: a turn takes four, and the first four that do not all reach gamma end it
+    while k + 4 <= lengths.len() && reach_gamma(lengths, k, gamma) {
         let at = k * 64;
-        let end = at + 256;
-        add_four(&chains[at..end], width, sums);
+        add_four(&chains[at..at + 256], width, sums);
         k += 4;
     }
     k
@@ -111,12 +89,11 @@ pub fn expected_over(chains: &[f64], lengths: &[u32], gamma: u32) -> [f64; 65]
     ensures { result ≡ expected_over gamma lengths.now chains.now }
 {
     let mut sums = [0.0; 65];
-    let mut k = add_fours(chains, lengths, gamma, &mut sums);
-    while k < lengths.len() {
+    let added = add_fours(chains, lengths, gamma, &mut sums);
+    for k in added..lengths.len() {
         let at = k * 64;
-        let end = at + smaller(gamma, lengths[k]) as usize;
+        let end = at + gamma.min(lengths[k]) as usize;
         add_chain(&chains[at..end], &mut sums);
-        k += 1;
     }
     sums
 }

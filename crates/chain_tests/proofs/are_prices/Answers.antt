@@ -1,17 +1,11 @@
 -- `are_prices` meets its contract: the top bit is clear so far, and the entries left pass, where all do. Assumes nothing.
-use mathlib.Core.Path.{refl}
-use Prim.Native.Nat.{◌-◌}
-use native.Mathlib.Omega.{arith}
 use Rattle.chains.specs.Tests.{is_price}
 use Rattle.chain_tests.proofs.UpTo.{clear_next, clear_end}
 use Rattle.chain_tests.proofs.are_prices.Goals as goal
 
-pub loop-d-init : goal.loop-d-init
-loop-d-init c = (omega arith, refl)
-
-pub loop-d-preserved : goal.loop-d-preserved
-loop-d-preserved c =
-    (omega arith, clear_next is_price c.args.values.now c.loop-d.d c.loop-d.faults c.loop-d.invariant.1 _ c.loop-d-test.true c.unpriced-faults.ensures)
+pub loop-x-preserved : goal.loop-x-preserved
+loop-x-preserved c =
+    clear_next is_price c.args.values.now c.loop-x.x-index c.loop-x.faults c.loop-x.invariant _ c.loop-x-test.true c.unpriced-faults.ensures
 
 pub returns : goal.returns
-returns c = clear_end is_price c.args.values.now c.loop-d.d c.loop-d.faults c.loop-d.invariant.1 c.loop-d-test.false
+returns c = clear_end is_price c.args.values.now c.loop-x.x-index c.loop-x.faults c.loop-x.invariant c.loop-x-test.false

@@ -1,9 +1,7 @@
--- `inner::add_chain` meets its contract. The invariant: what is summed, followed by what is left with the rest of the chain added, is the whole.
--- The measure is what is left of the chain. Assumes nothing.
-use mathlib.Core.Path.{refl}
+-- `inner::add_chain` meets its contract. The invariant: what is summed, followed by what is left with the rest of the chain added, is the whole. Assumes nothing.
 use mathlib.Core.Path.{◌≡◌, sym, ◌∙◌}
 use mathlib.Core.List.{List, ◌++◌, append_assoc}
-use Prim.Native.Nat.{ℕ, suc, ◌+◌, ◌-◌, ◌≤◌, ◌<◌}
+use Prim.Native.Nat.{ℕ, suc, ◌+◌, ◌≤◌, ◌<◌}
 use native.Mathlib.Numerals.{add-one}
 use native.Mathlib.Omega.{arith}
 use lib.ListN.{length, take, drop, set, get_or, length-set, drop_of_length-le, take-append-drop}
@@ -44,6 +42,3 @@ loop-d-preserved c =
 
 pub returns : goal.returns
 returns c = ended c.args.chain.now c.loop-d.sums c.loop-d.acc c.loop-d.d _ (omega arith) c.loop-d.invariant.rest
-
-pub loop-d-init : goal.loop-d-init
-loop-d-init c = record { low = omega arith; long = refl; rest = refl }

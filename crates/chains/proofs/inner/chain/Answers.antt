@@ -1,5 +1,4 @@
 -- `inner::chain` meets its contract: its loop writes the running products (`Fill`). Assumes nothing.
-use mathlib.Core.Path.{refl}
 use mathlib.Core.Path.{◌≡◌, ◌∙◌, ap}
 use mathlib.Core.List.{List, ◌++◌}
 use Prim.Native.Nat.{ℕ, ◌-◌, ◌≤◌}
@@ -32,6 +31,3 @@ returns c =
     let signal = c.args.signal in
     let sized = front signal n (omega arith) c.requires in
     fill_ended survive survive nan f0 64 (omega (arith, sized)) c.loop-d.invariant ∙ ap (λ (i : ℕ). products f1 (take n signal) ++ replicate (64 - i) f0) sized
-
-pub loop-d-init : goal.loop-d-init
-loop-d-init c = record { low = omega arith; long = refl; blanks = refl; done = refl }

@@ -1,5 +1,4 @@
 -- `inner::chain` meets its contract: its loop writes the running products (`Fill`). Assumes nothing.
-use Prim.Native.Nat.{◌-◌}
 use lib.ListN.{take}
 use lib.Ieee.{nan}
 use Rattle.float.specs.Floats.{f0, f1}
@@ -9,6 +8,3 @@ use Rattle.chains.proofs.inner.chain.Given as goal
 
 abbrev pub invariant-loop-d : goal.invariant-loop-d
 invariant-loop-d l = Filled survive survive nan f0 64 (take l.length l.signal) (products f1 (take l.length l.signal)) l.out l.s l.d
-
-abbrev pub decreases-loop-d : goal.decreases-loop-d
-decreases-loop-d l = l.length - l.d
