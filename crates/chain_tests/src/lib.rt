@@ -7,6 +7,7 @@ ghost use Rattle.float.specs.Floats.{f0, f1, is_finite};
 ghost use Rattle.float.specs.Range.{in_range};
 ghost use Rattle.chains.specs.Tests.{all_of, is_survival, is_price};
 ghost use Rattle.chains.specs.Expected.{are_chains};
+ghost use Rattle.chain_tests.specs.Tops.{ByTops};
 
 // Whether all are finite.
 pub fn are_finite(values: &[f64]) -> bool
@@ -65,34 +66,38 @@ fn outside(x: f64, high: f64) -> u64
 fn unpriced(x: f64) -> u64
     ensures { ltb result (2 ^ 63) ≡ is_price x }
 {
-    if x == f64::from_bits(0x7ff0_0000_0000_0000) {
+    if x == f64::INFINITY {
         0
     } else {
         outside(x, 1e9)
     }
 }
 
-// Whether all are in 0..high. None ends it, as above: one that is out sets the top bit, which then stays.
-pub fn are_up_to(values: &[f64], high: f64) -> bool
-    requires { lt f0 high ≡ true }
-    ensures { result ≡ all_of (in_range f0 high) values.now }
+// Whether what `fault` gives has a clear top bit for all. None ends it, as above: a top bit that is set then stays.
+fn all_clear<F: Fn(f64) -> u64>(values: &[f64], fault: F) -> bool
+    requires { F.IsAlwaysCallable fault }
+    ensures { ByTops (F.post fault) values.now result }
 {
     let mut faults = 0u64;
     for x in values {
-        faults |= outside(*x, high);
+        faults |= fault(*x);
     }
     faults < 0x8000_0000_0000_0000
 }
 
-// Whether all are prices. None ends it.
+// Whether all are in 0..high.
+pub fn are_up_to(values: &[f64], high: f64) -> bool
+    requires { lt f0 high ≡ true }
+    ensures { result ≡ all_of (in_range f0 high) values.now }
+{
+    all_clear(values, |x| outside(x, high))
+}
+
+// Whether all are prices.
 pub fn are_prices(values: &[f64]) -> bool
     ensures { result ≡ all_of is_price values.now }
 {
-    let mut faults = 0u64;
-    for x in values {
-        faults |= unpriced(*x);
-    }
-    faults < 0x8000_0000_0000_0000
+    all_clear(values, unpriced)
 }
 
 // Whether no chain is longer than its slots, and the slots up to gamma hold survivals.

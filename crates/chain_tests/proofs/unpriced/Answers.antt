@@ -1,15 +1,10 @@
 -- `unpriced` meets its contract. Assumes nothing.
 use mathlib.Core.Path.{refl}
-use lib.Ieee.{lt, of_bits, nan_bits}
-use borrow.Author.Rules.{rules}
+use lib.Ieee.{lt, of_bits}
 use Rattle.float.specs.Floats.{f0}
 use Rattle.speculative.specs.Drafter.{billion}
 use Rattle.chain_tests.proofs.UpTo.{is_infinite, not_infinite}
 use Rattle.chain_tests.proofs.unpriced.Goals as goal
-
-pub float_from_bits-t-2 : goal.float_from_bits-t-2
-unfolding nan_bits
-float_from_bits-t-2 c = search rules
 
 pub outside-requires : goal.outside-requires
 unfolding lt of_bits
