@@ -6,7 +6,6 @@ ghost use Rattle.std.specs.Prelude.{◌≡◌, ◌≤◌, ◌<◌, min, length};
 ghost use Rattle.budgets.specs.Budget.{model_values, bank_values, over};
 
 use acceptance::AcceptanceModel;
-use chains::inner::smaller;
 
 // n times the model's expected number of accepted drafts at the depths 0 to gamma, in one pass: a depth's product and sum are
 // those of the depth before it and one draft more.
@@ -18,12 +17,10 @@ pub fn model_values(model: AcceptanceModel, positions: &[f64], gamma: u32, n: u3
     let times = n as f64;
     let mut prefix = 1.0;
     let mut e = 0.0;
-    let mut d = 0usize;
-    while d < count {
+    for d in 0..count {
         out[d] = times * e;
-        prefix = prefix * acceptance::a_d(model, positions, d);
-        e = e + prefix;
-        d += 1;
+        prefix *= acceptance::a_d(model, positions, d);
+        e += prefix;
     }
 }
 
@@ -35,22 +32,8 @@ pub fn bank_values(curve: &[f64], depth: u32, gamma: u32, n: u32, out: &mut [f64
     ensures { out.new ≡ over (bank_values curve.now depth n gamma) out.old }
 {
     let times = n as f64;
-    let mut g = 0u32;
-    while g <= gamma {
-        let at = smaller(g, depth) as usize;
+    for g in 0..gamma + 1 {
+        let at = g.min(depth) as usize;
         out[g as usize] = times * curve[at];
-        g += 1;
-    }
-}
-
-// The values themselves.
-pub fn copy(values: &[f64], out: &mut [f64])
-    requires { length values.now ≤ length out.old }
-    ensures { out.new ≡ over values.now out.old }
-{
-    let mut d = 0usize;
-    while d < values.len() {
-        out[d] = values[d];
-        d += 1;
     }
 }

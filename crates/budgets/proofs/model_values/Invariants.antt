@@ -1,6 +1,5 @@
 -- `model_values` meets its contract: the product and the sum are the definition's at each depth. Assumes nothing.
 use mathlib.Core.Path.{◌≡◌}
-use Prim.Native.Nat.{◌+◌, ◌-◌, ◌≤◌}
 use Rattle.acceptance.specs.Acceptance.{product_to, expected_to}
 use Rattle.budgets.specs.Budget.{model_values}
 use Rattle.budgets.proofs.Copied.{Copied}
@@ -8,7 +7,4 @@ use Rattle.budgets.proofs.model_values.Given as goal
 
 abbrev pub invariant-loop-d : goal.invariant-loop-d
 invariant-loop-d l =
-    (l.d ≤ l.gamma + 1) × (Copied (model_values l.model l.positions l.n l.gamma) l.initial.out l.out l.d × ((l.prefix ≡ product_to l.model l.positions l.d) × (l.e ≡ expected_to l.model l.positions l.d)))
-
-abbrev pub decreases-loop-d : goal.decreases-loop-d
-decreases-loop-d l = l.gamma + 1 - l.d
+    Copied (model_values l.model l.positions l.n l.gamma) l.initial.out l.out l.d × ((l.prefix ≡ product_to l.model l.positions l.d) × (l.e ≡ expected_to l.model l.positions l.d))
