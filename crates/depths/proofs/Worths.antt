@@ -4,22 +4,19 @@ use mathlib.Core.Bool.{Bool, true, false, cond, ◌&&◌}
 use mathlib.Core.List.{List, [], ◌∷◌}
 use Prim.Native.Nat.{ℕ, suc, ◌+◌, ◌≤◌, ◌<◌}
 use native.Mathlib.Omega.{arith}
-use borrow.Author.Tests.{ne_eqb}
-use lib.Dec.{eqb}
 use lib.ListN.{length, drop, get_or, drop_of_length-le}
 use lib.Seq.{drop-cons}
 use lib.Ieee.{Float, nan, inf, fin, lt, is_nan, add}
-use Rattle.float.specs.Floats.{plus, over, f0, whole, max_of, is_finite}
+use Rattle.float.specs.Floats.{plus, over, whole, max_of, is_finite}
 use Rattle.float.proofs.Order.{nan_not_above}
 use Rattle.float.proofs.Classes.{clash}
 use Rattle.speculative.specs.declared.drafter.Rates.{Rates}
 use Rattle.speculative.specs.declared.drafter.DrafterCost.{DrafterCost}
-use Rattle.speculative.specs.declared.drafter.DrafterCost.TheVariants.{Fraction, BlockParallel}
 use Rattle.speculative.specs.Drafter.{drafter_seconds}
 use Rattle.depths.specs.declared.inner.Best.{Best}
 use Rattle.depths.specs.Goodput.{tiny, goodput_of, weigh, best_from}
 use Rattle.depths.specs.Pricing.{total_cost, costs_from}
-use Rattle.depths.specs.Worths.{worth_of, raise, raised_from, worths_from, over_worths, of_fraction, of_block, seconds_at}
+use Rattle.depths.specs.Worths.{worth_of, raise, raised_from, worths_from, seconds_at}
 use Rattle.chains.specs.Scan.{scan}
 
 -- ---- one worth
@@ -36,10 +33,6 @@ worth_finite n e c d p h =
 
 pub worth_none : (n : ℕ) (e c : Float) → is_finite c ≡ false → nan ≡ worth_of n e c
 worth_none n e c h = sym (ap (λ (b : Bool). cond b (goodput_of n e c) nan) h)
-
--- above depth 0
-pub deeper : (n g : ℕ) (e v x r : Float) → 1 ≤ g → r ≡ worth_of n e (plus v x) → r ≡ worth_of n e (plus v (cond (eqb g 0) f0 x))
-deeper n g e v x r h p = p ∙ ap (λ (b : Bool). worth_of n e (plus v (cond b f0 x))) (sym (ne_eqb g 0 (λ q. let w : ⊥ = omega (arith, q) in w)))
 
 pub drafted : (n : ℕ) (e v x y r : Float) → x ≡ y → r ≡ worth_of n e (plus v x) → r ≡ worth_of n e (plus v y)
 drafted n e v x y r q p = p ∙ ap (λ (z : Float). worth_of n e (plus v z)) q
@@ -103,15 +96,3 @@ module _ (kind : DrafterCost) (n : ℕ) (rates : Rates) (loaded : Float) (es : L
       ap (λ (l : List Float). best_from n g b l (total_cost kind n rates loaded g v ∷ cs)) (drop-cons es g nan (omega arith))
       ∙ ap (λ (m : Best). best_from n (suc g) m (drop (suc g) es) cs) (weigh_added n b g e v (drafter_seconds kind g n rates v loaded))
       ∙ best_raised (suc g) (raise b g (worth_of n e (plus v (drafter_seconds kind g n rates v loaded)))) curve (omega arith)
-
--- ---- the loops of one kind
-pub by_fraction : (kind : DrafterCost) (n : ℕ) (rates : Rates) (loaded : Float) (es curve out r : List Float) (frac : Float) → kind ≡ Fraction frac
-    → r ≡ over_worths n es (of_fraction frac) curve out → r ≡ over_worths n es (seconds_at kind n rates loaded) curve out
-by_fraction kind n rates loaded es curve out r frac q p = p ∙ ap (λ (k : DrafterCost). over_worths n es (seconds_at k n rates loaded) curve out) (sym q)
-
--- a block costs the same at every depth above 0
-pub by_block : (kind : DrafterCost) (n : ℕ) (rates : Rates) (loaded : Float) (es curve out r : List Float) (params : Float) (block : ℕ) (s : Float) → kind ≡ BlockParallel params block
-    → s ≡ seconds_at kind n rates loaded 1 f0 → r ≡ over_worths n es (of_block s) curve out → r ≡ over_worths n es (seconds_at kind n rates loaded) curve out
-by_block kind n rates loaded es curve out r params block s q t p =
-    p ∙ ap (λ (x : Float). over_worths n es (of_block x) curve out) (t ∙ ap (λ (k : DrafterCost). seconds_at k n rates loaded 1 f0) q)
-    ∙ ap (λ (k : DrafterCost). over_worths n es (seconds_at k n rates loaded) curve out) (sym q)

@@ -54,9 +54,6 @@ module _ (f : ℕ → Float → Float) (curve old : List Float) (w : Float) (som
   pub first_written : w ≡ f 0 (get_or curve 0 nan) → Written f curve (set old 0 w) (set old 0 w) 1
   first_written p = record { low = some; long = refl; done = (written_next f curve old fit some p (written_none f curve old)).done; rest = refl }
 
-  pub first_long : {buf : List Float} {d : ℕ} → Written f curve (set old 0 w) buf d → length buf ≡ length old
-  first_long inv = inv.long ∙ length-set old 0 w
-
   pub first_next : {buf : List Float} {d : ℕ} {v : Float} → d < length curve → v ≡ f d (get_or curve d nan)
       → Written f curve (set old 0 w) buf d → Written f curve (set old 0 w) (set buf d v) (d + 1)
   first_next h p inv = written_next f curve (set old 0 w) (omega (arith, length-set old 0 w)) h p inv

@@ -1,8 +1,8 @@
 -- What each depth is worth, in a list of its own, and the best of such a list. Only functions that this crate keeps to itself are stated so. Assumes nothing.
-use Rattle.std.specs.Prelude.{ℕ, suc, cond, List, [], ◌∷◌, ◌++◌, eqb, length, get_or, drop, Float}
+use Rattle.std.specs.Prelude.{ℕ, suc, ◌≡◌, ◌<◌, cond, List, [], ◌∷◌, ◌++◌, length, get_or, drop, Float}
 use Rattle.std.specs.Float.{nan}
 use Rattle.std.specs.Float.Ieee.{lt}
-use Rattle.float.specs.Floats.{plus, times, f0, whole, is_finite}
+use Rattle.float.specs.Floats.{plus, f0, is_finite}
 use Rattle.speculative.specs.Drafter.{drafter_seconds}
 use Rattle.speculative.specs.declared.drafter.Rates.{Rates}
 use Rattle.speculative.specs.declared.drafter.DrafterCost.{DrafterCost}
@@ -39,12 +39,12 @@ module _ (n : ℕ) (es : List Float) (seconds : ℕ → Float → Float) where
   abbrev pub over_worths : List Float → List Float → List Float
   over_worths curve out = worths_from 0 curve ++ drop (length curve) out
 
--- the seconds of a fraction, of a block, and of any drafter
-abbrev pub of_fraction : Float → ℕ → Float → Float
-of_fraction frac g verify = cond (eqb g 0) f0 (times (times frac (whole g)) verify)
+-- the worths are in a buffer that held `old`, for each `seconds` that are none at depth 0 and what `given` gives above it
+abbrev pub Filled : (ℕ → Float → Float → Type 0) → ℕ → List Float → List Float → List Float → List Float → Type 0
+Filled given n es curve old new =
+    (seconds : ℕ → Float → Float) → ((v : Float) → seconds 0 v ≡ f0) → ((g : ℕ) (v x : Float) → 0 < g → given g v x → x ≡ seconds g v)
+    → new ≡ over_worths n es seconds curve old
 
-abbrev pub of_block : Float → ℕ → Float → Float
-of_block seconds g verify = cond (eqb g 0) f0 seconds
-
+-- the seconds of any drafter
 abbrev pub seconds_at : DrafterCost → ℕ → Rates → Float → ℕ → Float → Float
 seconds_at kind n rates loaded g verify = drafter_seconds kind g n rates verify loaded

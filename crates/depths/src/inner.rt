@@ -4,7 +4,7 @@ ghost use Rattle.std.specs.Float.Ieee.{lt};
 ghost use Rattle.chains.specs.Expected.{Fits};
 ghost use Rattle.depths.specs.Goodput.{tiny};
 ghost use Rattle.depths.specs.Pricing.{total_cost, depth_over, gate_depth};
-ghost use Rattle.depths.specs.Worths.{worth_of, raise, unweighed, raised_from, over_worths, of_fraction, of_block, seconds_at};
+ghost use Rattle.depths.specs.Worths.{worth_of, raise, unweighed, raised_from, over_worths, seconds_at, Filled};
 
 use chains::inner::expected_over;
 use speculative::drafter::{DrafterCost, Rates};
@@ -25,7 +25,7 @@ fn worth(expected: f64, n: u32, cost: f64) -> f64
     if float::is_finite(cost) {
         goodput
     } else {
-        0.0 / 0.0
+        f64::NAN
     }
 }
 
@@ -56,12 +56,10 @@ fn best_in(worths: &[f64], from: usize) -> Best
 {
     let mut best = Best {
         depth: 0,
-        worth: -1.7976931348623157e308,
+        worth: f64::MIN,
     };
-    let mut g = 0usize;
-    while g < worths.len() {
-        best = best.raised((from + g) as u32, worths[g]);
-        g += 1;
+    for (g, worth) in worths.iter().enumerate() {
+        best = best.raised((from + g) as u32, *worth);
     }
     best
 }
@@ -108,66 +106,29 @@ pub fn total_cost(
     }
 }
 
-// Writes what each depth of the curve is worth to the front of `out`, where each draft costs a fraction of the verify cost.
-fn fill_fraction(frac: f64, expected: &[f64], curve: &[f64], n: u32, out: &mut [f64])
-    requires expected_len { length expected.now ≡ length curve.now }
-    requires curve_nonzero { (0 < length curve.now) × (length curve.now ≤ 65) }
-    requires curve_in_bounds { length curve.now ≤ length out.old }
-    ensures { out.new ≡ over_worths n expected.now (of_fraction frac) curve.now out.old }
-{
-    out[0] = worth(expected[0], n, curve[0] + 0.0);
-    let mut g = 1usize;
-    while g < curve.len() {
-        let verify = curve[g];
-        let each = worth(expected[g], n, verify + frac * (g as u32 as f64) * verify);
-        out[g] = each;
-        g += 1;
-    }
-}
-
-// The same where a draft of any depth above 0 costs the same seconds.
-fn fill_block(seconds: f64, expected: &[f64], curve: &[f64], n: u32, out: &mut [f64])
-    requires expected_len { length expected.now ≡ length curve.now }
-    requires curve_nonzero { (0 < length curve.now) × (length curve.now ≤ 65) }
-    requires curve_in_bounds { length curve.now ≤ length out.old }
-    ensures { out.new ≡ over_worths n expected.now (of_block seconds) curve.now out.old }
-{
-    out[0] = worth(expected[0], n, curve[0] + 0.0);
-    let mut g = 1usize;
-    while g < curve.len() {
-        let verify = curve[g];
-        let each = worth(expected[g], n, verify + seconds);
-        out[g] = each;
-        g += 1;
-    }
-}
-
-// The same for every drafter: its seconds are asked for at each depth.
-fn fill_each(
+// Writes what each depth of the curve is worth to the front of `out`, where drafts of a depth above 0 cost what `seconds` gives
+// of the depth and its verify cost. At depth 0, which costs no drafts, it is not called.
+fn fill<F: Fn(u32, f64) -> f64>(
+    seconds: F,
     expected: &[f64],
     curve: &[f64],
     n: u32,
-    drafter: DrafterCost,
-    rates: Rates,
-    loaded: f64,
     out: &mut [f64],
 )
+    requires always { F.IsAlwaysCallable seconds }
     requires expected_len { length expected.now ≡ length curve.now }
-    requires curve_len_bound { length curve.now ≤ 65 }
+    requires curve_nonzero { (0 < length curve.now) × (length curve.now ≤ 65) }
     requires curve_in_bounds { length curve.now ≤ length out.old }
-    ensures { out.new ≡ over_worths n expected.now (seconds_at drafter n rates loaded) curve.now out.old }
+    ensures { Filled (F.post seconds) n expected.now curve.now out.old out.new }
 {
-    let mut g = 0usize;
-    while g < curve.len() {
+    out[0] = worth(expected[0], n, curve[0] + 0.0);
+    for g in 1..curve.len() {
         let verify = curve[g];
-        let drafts = speculative::inner::seconds(drafter, g as u32, n, rates, verify, loaded);
-        let each = worth(expected[g], n, verify + drafts);
-        out[g] = each;
-        g += 1;
+        out[g] = worth(expected[g], n, verify + seconds(g as u32, verify));
     }
 }
 
-// The same by the kind: a fraction and a block have loops of their own, in which no depth asks for the kind.
+// The same for a drafter: a fraction and a block have closures of their own, in which no depth asks for the kind.
 fn fill_worths(
     expected: &[f64],
     curve: &[f64],
@@ -183,13 +144,25 @@ fn fill_worths(
     ensures { out.new ≡ over_worths n expected.now (seconds_at drafter n rates loaded) curve.now out.old }
 {
     match drafter {
-        DrafterCost::Fraction { frac } => fill_fraction(frac, expected, curve, n, out),
-        DrafterCost::Autoregressive { .. } => {
-            fill_each(expected, curve, n, drafter, rates, loaded, out)
+        DrafterCost::Fraction { frac } => {
+            fill(
+                |g, verify| frac * (g as f64) * verify,
+                expected,
+                curve,
+                n,
+                out,
+            )
         }
+        DrafterCost::Autoregressive { .. } => fill(
+            |g, verify| speculative::inner::seconds(drafter, g, n, rates, verify, loaded),
+            expected,
+            curve,
+            n,
+            out,
+        ),
         DrafterCost::BlockParallel { .. } => {
-            let seconds = speculative::inner::seconds(drafter, 1, n, rates, 0.0, loaded);
-            fill_block(seconds, expected, curve, n, out)
+            let block = speculative::inner::seconds(drafter, 1, n, rates, 0.0, loaded);
+            fill(|_, _| block, expected, curve, n, out)
         }
     }
 }

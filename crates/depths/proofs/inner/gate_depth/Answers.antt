@@ -1,7 +1,5 @@
 -- `inner::gate_depth` meets its contract. Assumes nothing.
-use mathlib.Core.Path.{◌≡◌, refl}
-use native.Mathlib.Omega.{arith}
-use lib.ListN.{length, length-take}
+use mathlib.Core.Path.{refl}
 use Rattle.depths.proofs.Depths.{gate_chosen, gate_within}
 use Rattle.depths.proofs.inner.gate_depth.Goals as goal
 
