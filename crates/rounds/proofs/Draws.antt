@@ -14,7 +14,9 @@ use Rattle.acceptance.specs.Acceptance.{sample_from, used_of}
 use Rattle.acceptance.proofs.Draws.{sample_bounded}
 use Rattle.acceptance.specs.declared.AcceptanceModel.{AcceptanceModel}
 use Rattle.acceptance.specs.declared.Sample.{Sample}
-use Rattle.acceptance.specs.declared.Sample.TheVariants.{Accepted, Refused}
+use Rattle.std.specs.Prelude.{Result, Ok, Err}
+use Rattle.refusals.specs.declared.Refusal.{Refusal}
+use Rattle.refusals.specs.Refusals.{number_of}
 use Rattle.rounds.specs.declared.drawing.Drawn.{Drawn}
 use Rattle.rounds.specs.declared.drawing.Drawn.TheVariants.{Used, Refused as NotDrawn}
 use Rattle.rounds.specs.Drawing.{Batch, none_left, refused_with, and_used, and_then, sequence_then, analytic, replayed, drawn_over}
@@ -59,31 +61,32 @@ module _ (model : AcceptanceModel) (positions : List Float) (gamma : ℕ) (draws
   to_draw k used = analytic model positions gamma (n - k) (drop used draws)
 
   -- a sequence uses at most gamma draws
-  pub used_few : (used commits more : ℕ) → Accepted commits more ≡ sample_from model positions gamma draws used → more ≤ gamma
-  used_few used commits more e = subst (λ (s : Sample). used_of s ≤ gamma) (sym e) (sample_bounded model positions gamma draws used).used_gamma
+  pub used_few : (used : ℕ) (s : Sample) → Ok s ≡ sample_from model positions gamma draws used → s.used ≤ gamma
+  used_few used s e = subst (λ (r : Result Sample Refusal). used_of r ≤ gamma) (sym e) (sample_bounded model positions gamma draws used).used_gamma
 
   pub draws_start : (old : List ℕ) → drawn_over (analytic model positions gamma n draws) old ≡ left_from 0 0 old (to_draw 0 0)
   draws_start old =
       starts (analytic model positions gamma n draws) old
       ∙ ap (λ (m : ℕ). left_from 0 0 old (analytic model positions gamma m draws)) (all_left n)
 
-  drawn_next : (k used : ℕ) (s : Sample) → k < n → s ≡ sample_from model positions gamma draws used
+  drawn_next : (k used : ℕ) (s : Result Sample Refusal) → k < n → s ≡ sample_from model positions gamma draws used
       → to_draw k used ≡ sequence_then s (λ more. analytic model positions gamma (n - (k + 1)) (drop more (drop used draws)))
   unfolding analytic
   drawn_next k used s h e =
       ap (λ (m : ℕ). analytic model positions gamma m (drop used draws)) (one_left n k h)
-      ∙ ap (λ (t : Sample). sequence_then t (λ more. analytic model positions gamma (n - (k + 1)) (drop more (drop used draws)))) (sym e)
+      ∙ ap (λ (t : Result Sample Refusal). sequence_then t (λ more. analytic model positions gamma (n - (k + 1)) (drop more (drop used draws)))) (sym e)
 
-  pub draws_refused : (k used number : ℕ) (now : List ℕ) → k < n → Refused number ≡ sample_from model positions gamma draws used
+  pub draws_refused : (k used : ℕ) (refusal : Refusal) (number : ℕ) (now : List ℕ) → k < n → Err refusal ≡ sample_from model positions gamma draws used → number ≡ number_of refusal
       → left_from used k now (to_draw k used) ≡ record { answer = NotDrawn number; commits = now }
-  draws_refused k used number now h e = ap (left_from used k now) (drawn_next k used (Refused number) h e)
+  draws_refused k used refusal number now h e q =
+      ap (left_from used k now) (drawn_next k used (Err refusal) h e) ∙ ap (λ (r : ℕ). record { answer = NotDrawn r; commits = now }) (sym q)
 
-  pub draws_next : (k used commits more : ℕ) (now : List ℕ) → k < n → Accepted commits more ≡ sample_from model positions gamma draws used
-      → left_from used k now (to_draw k used) ≡ left_from (used + more) (k + 1) (set now k commits) (to_draw (k + 1) (used + more))
-  draws_next k used commits more now h e =
-      ap (left_from used k now) (drawn_next k used (Accepted commits more) h e)
-      ∙ goes_on used k now commits more (analytic model positions gamma (n - (k + 1)) (drop more (drop used draws)))
-      ∙ ap (λ (l : List Float). left_from (used + more) (k + 1) (set now k commits) (analytic model positions gamma (n - (k + 1)) l)) (drop-drop more used draws)
+  pub draws_next : (k used : ℕ) (s : Sample) (now : List ℕ) → k < n → Ok s ≡ sample_from model positions gamma draws used
+      → left_from used k now (to_draw k used) ≡ left_from (used + s.used) (k + 1) (set now k s.commits) (to_draw (k + 1) (used + s.used))
+  draws_next k used s now h e =
+      ap (left_from used k now) (drawn_next k used (Ok s) h e)
+      ∙ goes_on used k now s.commits s.used (analytic model positions gamma (n - (k + 1)) (drop s.used (drop used draws)))
+      ∙ ap (λ (l : List Float). left_from (used + s.used) (k + 1) (set now k s.commits) (analytic model positions gamma (n - (k + 1)) l)) (drop-drop s.used used draws)
 
   pub draws_end : (k used : ℕ) (now : List ℕ) → n ≤ k → left_from used k now (to_draw k used) ≡ record { answer = Used used; commits = now }
   unfolding analytic
@@ -119,6 +122,8 @@ module _ (bank : List ℕ) (rounds : ℕ) (indices : List ℕ) (n : ℕ) where
       ap (left_from k k now) (at_index k true h l (lt-ltb (get_or indices k 0) rounds e))
       ∙ goes_on k k now (get_or bank (get_or indices k 0) 0) 1 (to_replay (k + 1))
 
-  pub replay_ends : (k : ℕ) (now : List ℕ) → n ≤ k → left_from k k now (to_replay k) ≡ record { answer = Used k; commits = now }
+  pub replay_ends : (k : ℕ) (now : List ℕ) → k ≤ n → n ≤ k → left_from k k now (to_replay k) ≡ record { answer = Used n; commits = now }
   unfolding replayed
-  replay_ends k now h = ap (λ (m : ℕ). left_from k k now (replayed bank rounds m (drop k indices))) (no_left n k h) ∙ ended k k now
+  replay_ends k now low h =
+      let e : k ≡ n = omega arith in
+      ap (λ (m : ℕ). left_from k k now (replayed bank rounds m (drop k indices))) (no_left n k h) ∙ ended k k now ∙ ap (λ (u : ℕ). record { answer = Used u; commits = now }) e

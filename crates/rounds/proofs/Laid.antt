@@ -1,12 +1,12 @@
 -- Laws of values stored one after the other from a place on. Assumes nothing.
 use mathlib.Core.Path.{◌≡◌, refl, sym, ap, ◌∙◌}
-use mathlib.Core.List.{List, [], ◌∷◌, ◌++◌}
+use mathlib.Core.List.{List, [], ◌∷◌, ◌++◌, append_assoc}
 use Prim.Native.Nat.{ℕ, zero, suc, ◌+◌, ◌-◌, ◌≤◌, ◌<◌}
 use native.Mathlib.Nat.{not-suc-le-zero, le_of_suc-le-suc}
 use native.Mathlib.Numerals.{add-one}
 use native.Mathlib.Omega.{arith}
-use lib.ListN.{length, get_or, drop, set, replicate, length-set, drop_of_length-le}
-use lib.Seq.{sets, sets-eq, drop-cons}
+use lib.ListN.{length, get_or, take, drop, set, replicate, length-set, drop_of_length-le}
+use lib.Seq.{sets, sets-eq, drop-cons, drop-drop}
 use lib.Ieee.{Float, nan}
 use Rattle.float.specs.Floats.{f0}
 use Rattle.rounds.specs.Signals.{slots}
@@ -29,6 +29,12 @@ stored_more [] vs l i = let z : i + 0 ≡ i = omega arith in ap (λ (n : ℕ). s
 stored_more (u ∷ us) vs l i =
     let n : suc i + length us ≡ i + suc (length us) = omega arith in
     stored_more us vs (set l i u) (suc i) ∙ ap (λ (k : ℕ). sets (sets (set l i u) (suc i) us) k vs) n
+
+-- a part that the library wrote over
+pub copied_over : (l vs ys : List Float) (at : ℕ) → at + length vs ≤ length l → ys ≡ vs → take at l ++ (ys ++ drop (at + length vs - at) (drop at l)) ≡ sets l at vs
+copied_over l vs ys at h e =
+    let n : at + length vs - at ≡ length vs = omega arith in
+    rw (e, n, drop-drop (length vs) at l) (sym (sets-eq vs l at h ∙ append_assoc (take at l) vs (drop (at + length vs) l)))
 
 pub drop_zeros : (n k : ℕ) → k ≤ n → drop k (replicate n f0) ≡ replicate (n - k) f0
 drop_zeros n zero h = let z : n - 0 ≡ n = omega arith in ap (λ (m : ℕ). replicate m f0) (sym z)

@@ -1,10 +1,11 @@
 -- The commits of a batch: what each sequence draws, one after the other. Assumes nothing.
-use Rattle.std.specs.Prelude.{ℕ, zero, suc, ◌+◌, cond, List, [], ◌∷◌, ltb, get_or, drop, Float}
+use Rattle.std.specs.Prelude.{ℕ, zero, suc, ◌+◌, cond, List, [], ◌∷◌, ltb, get_or, drop, Float, Result, Ok, Err}
 use Rattle.std.proofs.lemmas.List.Edits.{sets}
 use Rattle.acceptance.specs.Acceptance.{sampled}
 use Rattle.acceptance.specs.declared.AcceptanceModel.{AcceptanceModel}
 use Rattle.acceptance.specs.declared.Sample.{Sample}
-use Rattle.acceptance.specs.declared.Sample.TheVariants.{Accepted, Refused}
+use Rattle.refusals.specs.declared.Refusal.{Refusal}
+use Rattle.refusals.specs.Refusals.{number_of}
 use Rattle.rounds.specs.declared.drawing.Drawn.{Drawn}
 use Rattle.rounds.specs.declared.drawing.Drawn.TheVariants.{Used, Refused as NotDrawn}
 
@@ -28,9 +29,9 @@ abbrev pub and_then : ℕ → ℕ → Batch → Batch
 and_then commits used later = record { answer = and_used used later.answer; commits = commits ∷ later.commits }
 
 -- ---- by an acceptance model: each sequence consumes draws from where the one before it stopped
-abbrev pub sequence_then : Sample → (ℕ → Batch) → Batch
-sequence_then (Accepted commits used) later = and_then commits used (later used)
-sequence_then (Refused number) later = refused_with number
+abbrev pub sequence_then : Result Sample Refusal → (ℕ → Batch) → Batch
+sequence_then (Ok sample) later = and_then sample.commits sample.used (later sample.used)
+sequence_then (Err refusal) later = refused_with (number_of refusal)
 
 -- of n sequences
 unfoldable pub analytic : AcceptanceModel → List Float → ℕ → ℕ → List Float → Batch

@@ -12,11 +12,9 @@ use acceptance::AcceptanceModel;
 pub fn are_finite(signals: &[f64], depth: u32, gamma: u32, indices: &[u32]) -> bool
     ensures { result ≡ are_finite signals.now depth gamma indices.now }
 {
-    let mut k = 0usize;
-    while k < indices.len() {
-        if signals::all_finite(signals::confidences_of(signals, depth, gamma, indices[k])) {
-            k += 1;
-        } else {
+    for index in indices {
+        let confidences = signals::confidences_of(signals, depth, gamma, *index);
+        if !chain_tests::are_finite(confidences) {
             return false;
         }
     }
@@ -28,11 +26,7 @@ fn lay(front: &[f64], chains: &mut [f64], at: usize)
     requires { at + length front.now ≤ length chains.old }
     ensures { chains.new ≡ sets chains.old at front.now }
 {
-    let mut d = 0usize;
-    while d < front.len() {
-        chains[at + d] = front[d];
-        d += 1;
-    }
+    chains[at..at + front.len()].copy_from_slice(front);
 }
 
 // The running products of a signal laid from a place on.
@@ -41,11 +35,9 @@ fn lay_products(signal: &[f64], chains: &mut [f64], at: usize)
     ensures { chains.new ≡ sets chains.old at (products f1 signal.now) }
 {
     let mut s = 1.0;
-    let mut d = 0usize;
-    while d < signal.len() {
-        s = s * float::clamp_unit(signal[d]);
+    for (d, confidence) in signal.iter().enumerate() {
+        s *= float::clamp_unit(*confidence);
         chains[at + d] = s;
-        d += 1;
     }
 }
 
@@ -69,11 +61,9 @@ pub fn lay_rounds(signals: &[f64], depth: u32, gamma: u32, indices: &[u32], chai
     ensures { chains.new ≡ sets chains.old 0 (round_chains signals.now depth gamma indices.now) }
 {
     let width = gamma as usize;
-    let mut k = 0usize;
-    while k < indices.len() {
-        let confidences = signals::confidences_of(signals, depth, gamma, indices[k]);
+    for (k, index) in indices.iter().enumerate() {
+        let confidences = signals::confidences_of(signals, depth, gamma, *index);
         lay_round(confidences, width, chains, k * 64);
-        k += 1;
     }
 }
 
@@ -91,9 +81,7 @@ pub fn lay_model(
     let width = gamma as usize;
     let signal = signals::model_slots(model, positions, gamma);
     let chain = chains::inner::chain(signal, width);
-    let mut k = 0usize;
-    while k < n {
+    for k in 0..n {
         lay(&chain[..width], chains, k * 64);
-        k += 1;
     }
 }

@@ -2,7 +2,7 @@
 ghost use Rattle.std.specs.Prelude.{◌≡◌, ◌≤◌, length};
 ghost use Rattle.rounds.specs.Drawing.{analytic, replayed, drawn_over};
 
-use acceptance::{AcceptanceModel, Sample};
+use acceptance::AcceptanceModel;
 
 // How many draws were used, or the number of the refusal.
 #[derive(Clone, Copy)]
@@ -23,21 +23,14 @@ pub fn draw_commits(
     requires { (gamma ≤ 64) × (length commits.old ≤ 1024) }
     ensures { record { answer = result; commits = commits.new } ≡ drawn_over (analytic model positions.now gamma (length commits.old) draws.now) commits.old }
 {
-    let mut used = 0usize;
-    let mut k = 0usize;
-    while k < commits.len() {
+    let mut used = 0;
+    for k in 0..commits.len() {
         match acceptance::inner::sample_from(model, positions, gamma, draws, used) {
-            Sample::Refused(number) => {
-                return Drawn::Refused(number);
+            Ok(sample) => {
+                commits[k] = sample.commits;
+                used += sample.used;
             }
-            Sample::Accepted {
-                commits: accepted,
-                used: more,
-            } => {
-                commits[k] = accepted;
-                used += more;
-                k += 1;
-            }
+            Err(refusal) => return Drawn::Refused(refusal.number()),
         }
     }
     Drawn::Used(used)
@@ -54,17 +47,16 @@ pub fn replay_commits(
     requires { rounds ≤ length bank_commits.now }
     ensures { record { answer = result; commits = commits.new } ≡ drawn_over (replayed bank_commits.now rounds (length commits.old) indices.now) commits.old }
 {
-    let mut k = 0usize;
-    while k < commits.len() {
+    let n = commits.len();
+    for k in 0..n {
         if indices.len() <= k {
             return Drawn::Refused(13);
         }
-        let index = indices[k];
-        if rounds <= index as usize {
+        let index = indices[k] as usize;
+        if rounds <= index {
             return Drawn::Refused(14);
         }
-        commits[k] = bank_commits[index as usize];
-        k += 1;
+        commits[k] = bank_commits[index];
     }
-    Drawn::Used(k)
+    Drawn::Used(n)
 }

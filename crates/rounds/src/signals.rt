@@ -1,7 +1,5 @@
 // The signal of a round, as it goes into its survival chain.
 ghost use Rattle.std.specs.Prelude.{◌≡◌, ◌≤◌, ◌*◌, length, take, drop};
-ghost use Rattle.float.specs.Floats.{is_finite};
-ghost use Rattle.chains.specs.Tests.{all_of};
 ghost use Rattle.rounds.specs.Signals.{slots, values_from, confidences};
 
 use acceptance::AcceptanceModel;
@@ -30,32 +28,13 @@ pub fn confidences_of<'a>(signals: &'a [f64], depth: u32, gamma: u32, index: u32
     part(signals, at, gamma as usize)
 }
 
-// Whether all are finite.
-pub fn all_finite(values: &[f64]) -> bool
-    ensures { result ≡ all_of is_finite values.now }
-{
-    let mut d = 0usize;
-    while d < values.len() {
-        if float::is_finite(values[d]) {
-            d += 1;
-        } else {
-            return false;
-        }
-    }
-    true
-}
-
 // Confidences in 64 slots, with 0.0 past them.
 pub fn slots_of(confidences: &[f64]) -> [f64; 64]
     requires { length confidences.now ≤ 64 }
     ensures { result ≡ slots confidences.now }
 {
     let mut out = [0.0; 64];
-    let mut d = 0usize;
-    while d < confidences.len() {
-        out[d] = confidences[d];
-        d += 1;
-    }
+    out[..confidences.len()].copy_from_slice(confidences);
     out
 }
 
@@ -65,11 +44,8 @@ pub fn model_slots(model: AcceptanceModel, positions: &[f64], gamma: u32) -> [f6
     ensures { result ≡ slots (values_from model positions.now 0 gamma) }
 {
     let mut out = [0.0; 64];
-    let mut d = 0usize;
-    while d < gamma as usize {
-        let value = acceptance::a_d(model, positions, d);
-        out[d] = value;
-        d += 1;
+    for d in 0..gamma as usize {
+        out[d] = acceptance::a_d(model, positions, d);
     }
     out
 }

@@ -1,30 +1,25 @@
 -- `batch::are_finite` meets its contract: from each sequence on, the answer is that of the rounds left. Assumes nothing.
-use mathlib.Core.Path.{refl, sym, ap, ◌∙◌}
+use mathlib.Core.Path.{sym, ap, ◌∙◌}
 use mathlib.Core.Bool.{true, false}
-use Prim.Native.Nat.{◌-◌}
-use native.Mathlib.Omega.{arith}
 use Rattle.float.specs.Floats.{is_finite}
 use Rattle.chains.specs.Tests.{all_of}
 use Rattle.rounds.proofs.Laying.{finite_next, finite_end}
 use Rattle.rounds.proofs.batch.are_finite.Goals as goal
 
-pub loop-k-init : goal.loop-k-init
-loop-k-init c = (omega arith, refl)
-
-pub loop-k-preserved : goal.loop-k-preserved
-loop-k-preserved c =
+pub loop-index-preserved : goal.loop-index-preserved
+loop-index-preserved c =
     let a = c.args in
-    let here = c.loop-k in
-    (omega arith, here.invariant.1 ∙ finite_next a.signals.now a.depth a.gamma a.indices.now here.k true c.loop-k-test.true (ap (all_of is_finite) (sym c.confidences_of.ensures) ∙ sym c.all_finite.ensures ∙ c.if-all_finite.true))
+    let here = c.loop-index in
+    here.invariant ∙ finite_next a.signals.now a.depth a.gamma a.indices.now here.index-index true c.loop-index-test.true (ap (all_of is_finite) (sym c.confidences_of-confidences.ensures) ∙ sym c.are_finite.ensures ∙ c.if-not-are_finite.false)
 
-pub returns-else-all_finite : goal.returns-else-all_finite
-returns-else-all_finite c =
+pub returns-then-not-are_finite : goal.returns-then-not-are_finite
+returns-then-not-are_finite c =
     let a = c.args in
-    let here = c.loop-k in
-    sym (here.invariant.1 ∙ finite_next a.signals.now a.depth a.gamma a.indices.now here.k false c.loop-k-test.true (ap (all_of is_finite) (sym c.confidences_of.ensures) ∙ sym c.all_finite.ensures ∙ c.if-all_finite.false))
+    let here = c.loop-index in
+    sym (here.invariant ∙ finite_next a.signals.now a.depth a.gamma a.indices.now here.index-index false c.loop-index-test.true (ap (all_of is_finite) (sym c.confidences_of-confidences.ensures) ∙ sym c.are_finite.ensures ∙ c.if-not-are_finite.true))
 
 pub returns : goal.returns
 returns c =
     let a = c.args in
-    let here = c.loop-k in
-    sym (here.invariant.1 ∙ finite_end a.signals.now a.depth a.gamma a.indices.now here.k c.loop-k-test.false)
+    let here = c.loop-index in
+    sym (here.invariant ∙ finite_end a.signals.now a.depth a.gamma a.indices.now here.index-index c.loop-index-test.false)

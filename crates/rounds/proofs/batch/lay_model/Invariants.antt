@@ -1,11 +1,8 @@
 -- `batch::lay_model` meets its contract: the same chain is laid for each sequence. Assumes nothing.
-use Prim.Native.Nat.{◌≤◌, ◌-◌}
+use Prim.Native.Nat.{◌-◌}
 use Rattle.rounds.specs.Signals.{same_chains}
 use Rattle.rounds.proofs.Laying.{Laying}
 use Rattle.rounds.proofs.batch.lay_model.Given as goal
 
 abbrev pub invariant-loop-k : goal.invariant-loop-k
-invariant-loop-k l = (l.k ≤ l.n) × Laying (same_chains l.chain l.n) l.initial.chains l.chains l.k (same_chains l.chain (l.n - l.k))
-
-abbrev pub decreases-loop-k : goal.decreases-loop-k
-decreases-loop-k l = l.n - l.k
+invariant-loop-k l = Laying (same_chains l.chain l.n) l.initial.chains l.chains l.k (same_chains l.chain (l.n - l.k))

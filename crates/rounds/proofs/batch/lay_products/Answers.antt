@@ -1,12 +1,8 @@
 -- `batch::lay_products` meets its contract: the products are stored one after the other from a place on. Assumes nothing.
 use mathlib.Core.Path.{ap}
-use Prim.Native.Nat.{◌-◌}
 use Rattle.float.specs.Floats.{times}
-use Rattle.rounds.proofs.Multiplying.{multiplying_begins, multiplying_next, multiplying_ends}
+use Rattle.rounds.proofs.Multiplying.{multiplying_next, multiplying_ends}
 use Rattle.rounds.proofs.batch.lay_products.Goals as goal
-
-pub loop-d-init : goal.loop-d-init
-loop-d-init c = multiplying_begins _ _ _
 
 pub loop-d-preserved : goal.loop-d-preserved
 loop-d-preserved c =

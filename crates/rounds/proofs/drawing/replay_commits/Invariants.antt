@@ -1,13 +1,9 @@
 -- `drawing::replay_commits` meets its contract: what is left to replay is replayed from the index of the sequence on. Assumes nothing.
 use mathlib.Core.Path.{◌≡◌}
-use Prim.Native.Nat.{◌≤◌, ◌-◌}
 use lib.ListN.{length}
 use Rattle.rounds.specs.Drawing.{replayed, drawn_over}
 use Rattle.rounds.proofs.Draws.{left_from, to_replay}
 use Rattle.rounds.proofs.drawing.replay_commits.Given as goal
 
 abbrev pub invariant-loop-k : goal.invariant-loop-k
-invariant-loop-k l = (length l.commits ≡ length l.initial.commits) × (l.k ≤ length l.initial.commits) × (drawn_over (replayed l.bank_commits l.rounds (length l.initial.commits) l.indices) l.initial.commits ≡ left_from l.k l.k l.commits (to_replay l.bank_commits l.rounds l.indices (length l.initial.commits) l.k))
-
-abbrev pub decreases-loop-k : goal.decreases-loop-k
-decreases-loop-k l = length l.initial.commits - l.k
+invariant-loop-k l = (length l.commits ≡ length l.initial.commits) × (drawn_over (replayed l.bank_commits l.rounds (length l.initial.commits) l.indices) l.initial.commits ≡ left_from l.k l.k l.commits (to_replay l.bank_commits l.rounds l.indices (length l.initial.commits) l.k))

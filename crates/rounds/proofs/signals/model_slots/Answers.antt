@@ -1,6 +1,6 @@
 -- `signals::model_slots` meets its contract: the model's values are stored one after the other over 64 zeros. Assumes nothing.
 use mathlib.Core.Path.{refl, sym, ◌∙◌}
-use Prim.Native.Nat.{◌-◌, ◌≤◌, ◌<◌}
+use Prim.Native.Nat.{◌≤◌, ◌<◌}
 use native.Mathlib.Omega.{arith}
 use lib.ListN.{length}
 use Rattle.rounds.specs.Signals.{slots, values_from}
@@ -21,7 +21,7 @@ loop-d-preserved c =
     let here = c.loop-d in
     let v = values_from a.model a.positions.now 0 a.gamma in
     let l : here.d < length v = omega (arith, values_length a.model a.positions.now 0 a.gamma, c.loop-d-test.true) in
-    storing_value v (slots v) 64 0 here.out here.d here.d _ (omega arith) l (c.a_d-value.ensures ∙ sym (value_at a.model a.positions.now a.gamma here.d c.loop-d-test.true)) here.invariant
+    storing_value v (slots v) 64 0 here.out here.d here.d _ (omega arith) l (c.a_d.ensures ∙ sym (value_at a.model a.positions.now a.gamma here.d c.loop-d-test.true)) here.invariant
 
 pub returns : goal.returns
 returns c =

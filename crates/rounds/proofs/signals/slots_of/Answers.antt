@@ -1,16 +1,7 @@
--- `signals::slots_of` meets its contract: the confidences are stored one after the other over 64 zeros. Assumes nothing.
-use mathlib.Core.Path.{refl}
-use Prim.Native.Nat.{◌-◌}
-use native.Mathlib.Omega.{arith}
-use Rattle.rounds.specs.Signals.{slots}
-use Rattle.rounds.proofs.Laid.{storing_begins, storing_next, storing_ends, stored_slots}
+-- `signals::slots_of` meets its contract: what is behind the confidences stays 0.0. Assumes nothing.
+use lib.ListN.{length}
+use Rattle.rounds.proofs.Laid.{drop_zeros}
 use Rattle.rounds.proofs.signals.slots_of.Goals as goal
 
-pub loop-d-init : goal.loop-d-init
-loop-d-init c = let v = c.args.confidences.now in storing_begins v (slots v) 64 0 _ refl (stored_slots v c.requires)
-
-pub loop-d-preserved : goal.loop-d-preserved
-loop-d-preserved c = storing_next _ _ 64 0 c.loop-d.out c.loop-d.d c.loop-d.d (omega arith) c.loop-d-test.true c.loop-d.invariant
-
 pub returns : goal.returns
-returns c = storing_ends _ _ 64 0 c.loop-d.out c.loop-d.d c.loop-d-test.false c.loop-d.invariant
+returns c = rw (c.copy_from_slice.ensures.after, drop_zeros 64 (length c.args.confidences.now) c.requires)
