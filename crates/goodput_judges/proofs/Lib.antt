@@ -1,6 +1,2 @@
 pub mod Judges
-pub mod Signals
-pub mod Batches
-pub mod Costs
-pub mod Stages
-pub mod Budgets
+pub mod Passed
