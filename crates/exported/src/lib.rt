@@ -2,11 +2,10 @@
 #![tactic(auto)]
 
 ghost use Rattle.std.specs.Prelude.{◌≡◌};
-ghost use Rattle.exported.specs.Telling.{part_told};
+ghost use Rattle.exported.specs.Telling.{part_told, refused_told};
 ghost use Rattle.exported.specs.Spelled.{whole_told, decimal_told};
 
-use decimals::Decimal;
-use numeral::answer::Whole;
+use refusals::Refusal;
 
 // The number of the refusal, 0 for none, and two figures, each 0 where there is none.
 #[repr(C)]
@@ -17,65 +16,53 @@ pub struct Told {
     pub second: u64,
 }
 
-// A part of a lent text: its length, and its byte at a place, 0 past its end.
-pub fn part_told(part: &[u8], at: usize) -> Told
-    ensures { result ≡ part_told part.now at }
+// A refusal has no figures.
+pub fn refused_told(refusal: Refusal) -> Told
+    ensures { result ≡ refused_told refusal }
 {
-    let first = part.len() as u64;
-    if at < part.len() {
-        let byte = part[at];
-        return Told {
-            refusal: 0,
-            first,
-            second: byte as u64,
-        };
-    }
     Told {
-        refusal: 0,
-        first,
+        refusal: refusal.number(),
+        first: 0,
         second: 0,
     }
 }
 
+// A part of a lent text: its length, and its byte at a place, 0 past its end.
+pub fn part_told(part: &[u8], at: usize) -> Told
+    ensures { result ≡ part_told part.now at }
+{
+    let byte = if at < part.len() { part[at] } else { 0 };
+    Told {
+        refusal: 0,
+        first: part.len() as u64,
+        second: byte as u64,
+    }
+}
+
 // A whole number, or its refusal.
-pub fn whole_told(read: Whole) -> Told
+pub fn whole_told(read: Result<u32, Refusal>) -> Told
     ensures { result ≡ whole_told read }
 {
-    let refusal = read.refusal();
     match read {
-        Whole::Value(number) => Told {
-            refusal,
+        Ok(number) => Told {
+            refusal: 0,
             first: number as u64,
             second: 0,
         },
-        Whole::Malformed => Told {
-            refusal,
-            first: 0,
-            second: 0,
-        },
+        Err(refusal) => refused_told(refusal),
     }
 }
 
 // The bits of a decimal, or its refusal.
-pub fn decimal_told(read: Decimal) -> Told
+pub fn decimal_told(read: Result<f64, Refusal>) -> Told
     ensures { result ≡ decimal_told read }
 {
-    let refusal = read.refusal();
     match read {
-        Decimal::Value(x) => Told {
-            refusal,
+        Ok(x) => Told {
+            refusal: 0,
             first: float::bits(x),
             second: 0,
         },
-        Decimal::Malformed => Told {
-            refusal,
-            first: 0,
-            second: 0,
-        },
-        Decimal::TooLong => Told {
-            refusal,
-            first: 0,
-            second: 0,
-        },
+        Err(refusal) => refused_told(refusal),
     }
 }

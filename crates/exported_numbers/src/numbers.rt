@@ -25,10 +25,11 @@ pub extern "C" fn numeral_decimal(text: &[u8]) -> Told
 }
 
 #[unsafe(no_mangle)]
+#[tactic(auto, using(decimals::proofs::Outcomes::number_without))]
 pub extern "C" fn numeral_decimal_refusal(text: &[u8]) -> u64
     ensures { result ≡ decimal_refusal (decimal_of text.now) }
 {
-    numeral::decimal_refusal(text)
+    refusals::number_in(numeral::judge_decimal(text))
 }
 
 #[unsafe(no_mangle)]
