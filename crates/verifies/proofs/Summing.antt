@@ -6,7 +6,7 @@ use native.Mathlib.Numerals.{add-one}
 use native.Mathlib.Omega.{arith}
 use lib.ListN.{length, get_or, drop, drop_of_length-le}
 use lib.Seq.{drop-cons}
-use Rattle.verifies.specs.declared.Round.TheVariants.{Committed}
+use Rattle.std.proofs.Common.{Some}
 use Rattle.verifies.specs.Accepted.{accepted_of, total_of, committed_of, counts_of, Shallow}
 
 -- the first k are summed
@@ -19,7 +19,7 @@ pub record Counted (drafts commits : List ℕ) (drafted committed k : ℕ) : Typ
 
 -- ---- what is accepted of one draft
 
-pub accepted_low : (draft commits : ℕ) → accepted_of draft (Committed commits) ≤ draft
+pub accepted_low : (draft commits : ℕ) → accepted_of draft (Some commits) ≤ draft
 unfolding accepted_of
 accepted_low draft commits = omega arith
 
@@ -37,7 +37,7 @@ committed_none : (commits : List ℕ) → committed_of [] commits ≡ 0
 unfolding committed_of
 committed_none commits = refl
 
-committed_first : (d : ℕ) (ds : List ℕ) (c : ℕ) (cs : List ℕ) → committed_of (d ∷ ds) (c ∷ cs) ≡ accepted_of d (Committed c) + committed_of ds cs
+committed_first : (d : ℕ) (ds : List ℕ) (c : ℕ) (cs : List ℕ) → committed_of (d ∷ ds) (c ∷ cs) ≡ accepted_of d (Some c) + committed_of ds cs
 unfolding committed_of
 committed_first d ds c cs = refl
 
@@ -51,10 +51,10 @@ module _ (drafts commits : List ℕ) where
   total_next k h = rw (drop-cons drafts k 0 h, add-one) (total_first (get_or drafts k 0) _)
 
   committed_next : (k : ℕ) → k < length drafts → k < length commits
-      → committed_of (drop k drafts) (drop k commits) ≡ accepted_of (get_or drafts k 0) (Committed (get_or commits k 0)) + committed_of (drop (k + 1) drafts) (drop (k + 1) commits)
+      → committed_of (drop k drafts) (drop k commits) ≡ accepted_of (get_or drafts k 0) (Some (get_or commits k 0)) + committed_of (drop (k + 1) drafts) (drop (k + 1) commits)
   committed_next k h m = rw (drop-cons drafts k 0 h, drop-cons commits k 0 m, add-one) (committed_first (get_or drafts k 0) _ (get_or commits k 0) _)
 
-  pub counted_next : (drafted committed k r : ℕ) → k < length drafts → length drafts ≤ length commits → Shallow drafts → r ≡ accepted_of (get_or drafts k 0) (Committed (get_or commits k 0))
+  pub counted_next : (drafted committed k r : ℕ) → k < length drafts → length drafts ≤ length commits → Shallow drafts → r ≡ accepted_of (get_or drafts k 0) (Some (get_or commits k 0))
       → Counted drafts commits drafted committed k → Counted drafts commits (drafted + get_or drafts k 0) (committed + r) (k + 1)
   counted_next drafted committed k r h m shallow e s =
       let low = accepted_low (get_or drafts k 0) (get_or commits k 0) in

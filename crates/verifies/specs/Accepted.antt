@@ -1,13 +1,11 @@
 -- How many drafts a verify accepts, and what the drafts of a plan come to. Assumes nothing.
-use Rattle.std.specs.Prelude.{List, [], ◌∷◌, ℕ, ◌+◌, ◌≤◌, ◌<◌, min, length, get_or}
-use Rattle.verifies.specs.declared.Round.{Round}
-use Rattle.verifies.specs.declared.Round.TheVariants.{Committed, NotPlanned}
+use Rattle.std.specs.Prelude.{List, [], ◌∷◌, ℕ, ◌+◌, ◌≤◌, ◌<◌, min, length, get_or, Option, Some, None}
 use Rattle.verifies.specs.declared.inner.Counts.{Counts}
 
--- at most what was drafted; none where no round was planned
-unfoldable pub accepted_of : ℕ → Round → ℕ
-accepted_of draft (Committed commits) = min commits draft
-accepted_of draft NotPlanned = 0
+-- at most what was drafted, of what the round committed; none where no round was planned
+unfoldable pub accepted_of : ℕ → Option ℕ → ℕ
+accepted_of draft (Some commits) = min commits draft
+accepted_of draft None = 0
 
 -- the drafts together
 unfoldable pub total_of : List ℕ → ℕ
@@ -18,7 +16,7 @@ total_of (d ∷ ds) = d + total_of ds
 unfoldable pub committed_of : List ℕ → List ℕ → ℕ
 committed_of [] cs = 0
 committed_of (d ∷ ds) [] = 0
-committed_of (d ∷ ds) (c ∷ cs) = accepted_of d (Committed c) + committed_of ds cs
+committed_of (d ∷ ds) (c ∷ cs) = accepted_of d (Some c) + committed_of ds cs
 
 -- both sums
 abbrev pub counts_of : List ℕ → List ℕ → Counts

@@ -2,8 +2,6 @@
 ghost use Rattle.std.specs.Prelude.{◌≡◌, ◌≤◌, length};
 ghost use Rattle.verifies.specs.Accepted.{counts_of, Shallow};
 
-use crate::Round;
-
 // All drafts together, and all of them that their rounds' commits accept.
 #[derive(Clone, Copy)]
 pub struct Counts {
@@ -18,12 +16,9 @@ pub fn count(drafts: &[u32], commits: &[u32]) -> Counts
 {
     let mut drafted = 0u32;
     let mut committed = 0u32;
-    let mut k = 0usize;
-    while k < drafts.len() {
-        let round = Round::Committed(commits[k]);
-        drafted += drafts[k];
-        committed += crate::accepted(drafts[k], round);
-        k += 1;
+    for (k, draft) in drafts.iter().enumerate() {
+        drafted += *draft;
+        committed += crate::accepted(*draft, Some(commits[k]));
     }
     Counts {
         drafts: drafted as u64,

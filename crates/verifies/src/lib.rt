@@ -6,19 +6,13 @@ pub mod inner;
 ghost use Rattle.std.specs.Prelude.{◌≡◌};
 ghost use Rattle.verifies.specs.Accepted.{accepted_of};
 
-// What a verify's round committed, if one was planned.
-#[derive(Clone, Copy)]
-pub enum Round {
-    Committed(u32),
-    NotPlanned,
-}
-
-// How many of a sequence's drafts a verify accepts.
-pub fn accepted(draft: u32, round: Round) -> u32
-    ensures { result ≡ accepted_of draft round }
+// How many of a sequence's drafts a verify accepts, where its round was planned and committed so many, and none where no round was.
+#[tactic(auto, unfolding(crate::specs::Accepted::accepted_of))]
+pub fn accepted(draft: u32, commits: Option<u32>) -> u32
+    ensures { result ≡ accepted_of draft commits }
 {
-    match round {
-        Round::Committed(commits) => { if commits < draft { commits } else { draft } }
-        Round::NotPlanned => 0,
+    match commits {
+        Some(commits) => commits.min(draft),
+        None => 0,
     }
 }
