@@ -12,7 +12,7 @@ use Rattle.speculative.specs.Drafter.{draft_ragged}
 use Rattle.asked_rooms.specs.declared.Ask.{Ask}
 use Rattle.asking.specs.Asked.{Lent}
 use Rattle.ledger.specs.declared.answer.Count.{Count}
-use Rattle.verifies.specs.declared.Round.TheVariants.{Committed, NotPlanned}
+use Rattle.std.proofs.Common.{Some, None}
 use Rattle.verifies.specs.Accepted.{accepted_of}
 use Rattle.bank_judge.specs.declared.Answer.{Answer as BankAnswer}
 use Rattle.bank.specs.Read.{Outcome as Bank}
@@ -59,11 +59,11 @@ abbrev plan_of : List ℕ → List ℕ → List ℕ → HostPlan → HostPlan ×
 plan_of ws ds cs r = (r, ws, ds, cs)
 
 module _ (draft : ℕ) (is_planned : Bool) (commits : ℕ) where
-  pub round_planned : is_planned ≡ true → accepted_of draft (Committed commits) ≡ accepted_called draft is_planned commits
+  pub round_planned : is_planned ≡ true → accepted_of draft (Some commits) ≡ accepted_called draft is_planned commits
   unfolding accepted_called
   round_planned h = rw h
 
-  pub no_round : is_planned ≡ false → accepted_of draft NotPlanned ≡ accepted_called draft is_planned commits
+  pub no_round : is_planned ≡ false → accepted_of draft None ≡ accepted_called draft is_planned commits
   unfolding accepted_called
   no_round h = rw h
 

@@ -5,7 +5,7 @@ use Rattle.speculative.specs.Drafter.{draft_ragged}
 use Rattle.asking.specs.Asked.{Lent}
 use Rattle.judged_plans.specs.declared.Planned.TheVariants.{Refused}
 use Rattle.judged_plans.specs.Plan.{Left, planned}
-use Rattle.verifies.specs.declared.Round.TheVariants.{Committed, NotPlanned}
+use Rattle.std.specs.Prelude.{Some, None}
 use Rattle.verifies.specs.Accepted.{accepted_of}
 use Rattle.width_way.specs.declared.Settling.TheVariants.{Refused as Unsettled}
 use Rattle.settling.specs.Settling.{PricesLent, settles}
@@ -47,7 +47,7 @@ seconds_called s r verify widths loaded =
     time_of (cond (settings_fit s) (draft_ragged (drafter_of s) widths (rates_of r) verify loaded) (Untimed 12))
 
 unfoldable pub accepted_called : ℕ → Bool → ℕ → ℕ
-accepted_called draft is_planned commits = accepted_of draft (cond is_planned (Committed commits) NotPlanned)
+accepted_called draft is_planned commits = accepted_of draft (cond is_planned (Some commits) None)
 
 -- 12 where a number stands for no case, and then nothing is written
 unfoldable pub settles_called : HostSettings → HostAsk → PricesLent → ℕ → ℕ → List ℕ → HostSettling × List ℕ

@@ -5,7 +5,7 @@ ghost use Rattle.latchmeander.specs.Calls.{plan_called, seconds_called, accepted
 use host::answers::{HostFigure, HostPlan};
 use host::asked::{HostAsk, HostRates, HostSettings};
 use host::{answers, asked};
-use planner::{Planned, Round};
+use planner::Planned;
 use speculative::drafter::DraftTime;
 
 // A plan; the drafts and the commits of the sequences stand at the fronts of `drafts` and `commits`.
@@ -85,7 +85,7 @@ pub fn latchmeander_accepted(draft: u32, planned: bool, commits: u32) -> u32
     ensures { result ≡ accepted_called draft planned commits }
 {
     if planned {
-        return planner::accepted(draft, Round::Committed(commits));
+        return planner::accepted(draft, Some(commits));
     }
-    planner::accepted(draft, Round::NotPlanned)
+    planner::accepted(draft, None)
 }

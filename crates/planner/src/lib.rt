@@ -12,7 +12,6 @@ pub use judged_plans::Planned;
 use ledger::answer::{Answer, Stall};
 use settings::Settings;
 use speculative::drafter::{DraftTime, Rates};
-pub use verifies::Round;
 
 // A plan. `storage` is the planner's own; the drafts and the commits of the sequences are written to the fronts of `drafts`
 // and `commits`. Refused with the first of 12, 11, 16, 15, 13 or 14, 15 of the signals, 17, 18 and 19, and then nothing is written.
@@ -85,11 +84,11 @@ pub fn plan(
     )
 }
 
-// How many of a sequence's drafts a verify accepts.
-pub fn accepted(draft: u32, round: Round) -> u32
-    ensures { result ≡ accepted_of draft round }
+// How many of a sequence's drafts a verify accepts, where its round was planned and committed so many, and none where no round was.
+pub fn accepted(draft: u32, commits: Option<u32>) -> u32
+    ensures { result ≡ accepted_of draft commits }
 {
-    verifies::accepted(draft, round)
+    verifies::accepted(draft, commits)
 }
 
 // The seconds that the drafter of the settings takes, where each sequence has its own width; 12, 11, 16, then 15.

@@ -5,7 +5,6 @@ ghost use Rattle.std.specs.Prelude.{◌≤◌, length};
 use cases::{answers, words};
 use ledger_words::outcome::{of_answer, of_stall};
 use ledger_words::{outcome, reads};
-use planner::Round;
 
 pub fn make(letter: u8, call: &[u64], storage: &mut [u64], ours: &mut [u64], at: usize) -> usize
     ensures { result ≤ length ours.new }
@@ -32,7 +31,7 @@ pub fn make(letter: u8, call: &[u64], storage: &mut [u64], ours: &mut [u64], at:
 fn accepted(call: &[u64]) -> u64 {
     let draft = words::whole_at(call, 1);
     if words::at(call, 2) == 0 {
-        return planner::accepted(draft, Round::NotPlanned) as u64;
+        return planner::accepted(draft, None) as u64;
     }
-    planner::accepted(draft, Round::Committed(words::whole_at(call, 3))) as u64
+    planner::accepted(draft, Some(words::whole_at(call, 3))) as u64
 }
