@@ -1,6 +1,5 @@
 pub mod Law
 pub mod Refusals
-pub mod Decimals
 pub mod Numeral
 pub mod Float
 pub mod Blocks
