@@ -86,25 +86,12 @@ pub fn is_of(clock: &[u64], ring: u64, plan: u64, a: u64, b: u64) -> bool
     requires { Ring ring clock.now }
     ensures { result ≡ is_of clock.now ring a b plan }
 {
-    if word_at(clock, ring, plan, WORKER_A) == a {
-        word_at(clock, ring, plan, WORKER_B) == b
-    } else {
-        false
-    }
+    word_at(clock, ring, plan, WORKER_A) == a && word_at(clock, ring, plan, WORKER_B) == b
 }
 
 // Whether the mark of a plan still lies in the ring, where so many plans stand.
 pub fn is_known(ring: u64, plans: u64, plan: u64) -> bool
     ensures { result ≡ is_known ring plans plan }
 {
-    if plan == 0 {
-        return false;
-    }
-    if plans < plan {
-        return false;
-    }
-    if ring < WITHDRAWN {
-        return false;
-    }
-    plans - plan < ring - WITHDRAWN
+    plan != 0 && plan <= plans && WITHDRAWN <= ring && plans - plan < ring - WITHDRAWN
 }

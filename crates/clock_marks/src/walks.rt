@@ -9,14 +9,11 @@ pub fn newest(clock: &[u64], ring: u64, plans: u64, among: u64, a: u64, b: u64) 
     requires { (Ring ring clock.now) × (among ≤ plans) }
     ensures { result ≡ newest_of clock.now ring a b among plans }
 {
-    let mut plan = plans;
-    let mut more = among;
-    while 0 < more {
+    for newer in 0..among {
+        let plan = plans - newer;
         if ring::is_of(clock, ring, plan, a, b) {
             return plan;
         }
-        plan -= 1;
-        more -= 1;
     }
     0
 }
@@ -27,17 +24,14 @@ pub fn holds(clock: &[u64], ring: u64, plans: u64, second: u64, from: u64, most:
     ensures { result ≡ holds_from clock.now ring plans second most from }
 {
     let mut plan = from;
-    let mut more = most;
-    while 0 < more {
+    for _ in 0..most {
         if !ring::is_known(ring, plans, plan) {
             return false;
         }
         if ring::word_at(clock, ring, plan, ring::SECOND) == second {
             return true;
         }
-        let next = ring::word_at(clock, ring, plan, ring::PREVIOUS);
-        plan = next;
-        more -= 1;
+        plan = ring::word_at(clock, ring, plan, ring::PREVIOUS);
     }
     false
 }
@@ -48,17 +42,13 @@ pub fn standing(clock: &[u64], ring: u64, plans: u64, second: u64, from: u64, mo
     ensures { result ≡ standing_from clock.now ring plans second most from }
 {
     let mut plan = from;
-    let mut more = most;
     let mut count = 0u64;
-    while 0 < more {
+    for _ in 0..most {
         if !ring::is_known(ring, plans, plan) {
             return count;
         }
-        let one = reaching(second, ring::word_at(clock, ring, plan, ring::SECOND));
-        let next = ring::word_at(clock, ring, plan, ring::PREVIOUS);
-        count += one;
-        plan = next;
-        more -= 1;
+        count += reaching(second, ring::word_at(clock, ring, plan, ring::SECOND));
+        plan = ring::word_at(clock, ring, plan, ring::PREVIOUS);
     }
     count
 }

@@ -1,7 +1,7 @@
 // Numbers, means and shares in the columns of a page: blanks in front, up to a width.
 #![tactic(auto)]
 
-ghost use Rattle.std.specs.Prelude.{◌≡◌, ◌-◌};
+ghost use Rattle.std.specs.Prelude.{◌≡◌};
 ghost use Rattle.page.specs.Page.{Added};
 ghost use Rattle.page.specs.Numbers.{decimal};
 ghost use Rattle.figures.specs.Figures.{mean_text, share_text};
@@ -12,26 +12,17 @@ fn append_blanks(page: &mut [u8], used: usize, n: usize) -> usize
     ensures { Added page.old used (blanks n) page.new result }
 {
     let mut at = page::append(page, used, b"");
-    let mut k = 0usize;
-    while k < n {
+    for _ in 0..n {
         at = page::append(page, at, b" ");
-        k += 1;
     }
     at
 }
 
-// The room in front of a text: none where it is as wide as the column, or wider.
-fn room(width: usize, long: usize) -> usize
-    ensures { result ≡ width - long }
-{
-    if width < long { 0 } else { width - long }
-}
-
-// Adds a text in a column of this width.
+// Adds a text in a column of this width: no blank where it is as wide as the column, or wider.
 pub fn append_padded(page: &mut [u8], used: usize, width: usize, text: &[u8]) -> usize
     ensures { Added page.old used (padded width text.now) page.new result }
 {
-    let front = room(width, text.len());
+    let front = width.saturating_sub(text.len());
     let at = append_blanks(page, used, front);
     page::append(page, at, text)
 }

@@ -1,8 +1,10 @@
 -- What the clock lines of a day add to the times of its plans, as words, on any content: the seconds for all workers by their bits, how many workers
 -- have their own, and of each its two numbers and its seconds by their bits.
-use Rattle.std.specs.Prelude.{ℕ, zero, suc, ◌+◌, ◌*◌, min, Bool, false, cond, List, [], ◌∷◌, ltb, eqb, Float, length, get_or, set}
+use Rattle.std.specs.Prelude.{ℕ, zero, suc, ◌+◌, ◌*◌, min, Bool, false, cond, List, [], ◌∷◌, ltb, eqb, Float, Ok, Err, length, get_or, set}
 use Rattle.std.specs.Float.{binary64}
 use Rattle.std.specs.Float.Ieee.{of_bits, to_bits}
+use Rattle.refusals.specs.Refusals.{Judgement}
+use Rattle.refusals.specs.declared.Refusal.TheVariants.{ShortBuffer, WorkerRoom}
 use Rattle.ledger_rows.specs.Words.{stored}
 
 abbrev pub words : ℕ
@@ -49,10 +51,10 @@ unfoldable pub added : List ℕ → ℕ → ℕ → ℕ → ℕ → List ℕ
 added ws rows a b bits = set (stored (row_at rows) (a ∷ b ∷ bits ∷ []) ws) 1 (rows + 1)
 
 -- in enough words, where `row` is the worker's row among so many
-unfoldable pub for_one_at : List ℕ → ℕ → ℕ → Float → ℕ → ℕ → ℕ × List ℕ
+unfoldable pub for_one_at : List ℕ → ℕ → ℕ → Float → ℕ → ℕ → Judgement × List ℕ
 for_one_at ws a b seconds row rows =
-    cond (ltb row rows) (0, set ws (row_at row + 2) (to_bits binary64 seconds))
-    (cond (ltb rows most) (0, added ws rows a b (to_bits binary64 seconds)) (17, ws))
+    cond (ltb row rows) (Ok tt, set ws (row_at row + 2) (to_bits binary64 seconds))
+    (cond (ltb rows most) (Ok tt, added ws rows a b (to_bits binary64 seconds)) (Err WorkerRoom, ws))
 
-unfoldable pub for_one : List ℕ → ℕ → ℕ → Float → ℕ × List ℕ
-for_one ws a b seconds = cond (ltb (length ws) words) (16, ws) (for_one_at ws a b seconds (row_of ws a b) (held ws))
+unfoldable pub for_one : List ℕ → ℕ → ℕ → Float → Judgement × List ℕ
+for_one ws a b seconds = cond (ltb (length ws) words) (Err ShortBuffer, ws) (for_one_at ws a b seconds (row_of ws a b) (held ws))

@@ -42,10 +42,8 @@ pub fn listed(page: &mut [u8], used: usize, name: &[u8], list: &[u32]) -> usize
     ensures { Added page.old used (name.now ++ spaced list.now) page.new result }
 {
     let mut at = page::append(page, used, name);
-    let mut k = 0usize;
-    while k < list.len() {
-        at = behind_a_blank(page, at, list[k]);
-        k += 1;
+    for n in list {
+        at = behind_a_blank(page, at, *n);
     }
     at
 }

@@ -2,10 +2,8 @@
 use Prim.Native.Nat.{ℕ, zero, suc, ◌+◌, ◌-◌, ◌≤◌, ◌<◌, min}
 use mathlib.Core.Path.{◌≡◌, refl, sym, ap, subst, ◌∙◌}
 use mathlib.Core.List.{List, [], ◌∷◌, ◌++◌}
-use native.Mathlib.Numerals.{add-one}
 use native.Mathlib.Omega.{arith}
-use lib.ListN.{length, take, drop, get_or, set, length-append}
-use lib.Seq.{drop-cons}
+use lib.ListN.{length, take, drop, length-append}
 use Rattle.page.specs.Page.{put, Added}
 
 -- no bytes change nothing
@@ -29,20 +27,35 @@ length_put (b ∷ page) zero [] = refl
 length_put (b ∷ page) zero (x ∷ bytes) = ap suc (length_put page zero bytes)
 length_put (b ∷ page) (suc at) bytes = ap suc (length_put page at bytes)
 
-put_set : (page : List ℕ) (at x : ℕ) (bytes : List ℕ) → at < length page → put (set page at x) (suc at) bytes ≡ put page at (x ∷ bytes)
-unfolding put
-put_set [] at x bytes h = absurd (omega arith)
-put_set (b ∷ page) zero x bytes h = refl
-put_set (b ∷ page) (suc at) x bytes h = ap (λ (l : List ℕ). b ∷ l) (put_set page at x bytes (omega arith))
+-- what is added behind a page's end
+pub nothing_fits : (page : List ℕ) (used : ℕ) (bytes : List ℕ) → length page < used → Added page used bytes page (length page)
+nothing_fits page used bytes h = record { ends = omega arith; stands = sym (put_past page used bytes (omega arith)) }
 
--- one byte is stored, and the others follow
-pub put_turn : (page : List ℕ) (at : ℕ) (bytes : List ℕ) (k : ℕ) → at < length page → k < length bytes
-    → put (set page at (get_or bytes k 0)) (at + 1) (drop (k + 1) bytes) ≡ put page at (drop k bytes)
-put_turn page at bytes k h l =
-    ap (λ (n : ℕ). put (set page at (get_or bytes k 0)) n (drop (k + 1) bytes)) (add-one at)
-    ∙ ap (λ (n : ℕ). put (set page at (get_or bytes k 0)) (suc at) (drop n bytes)) (add-one k)
-    ∙ put_set page at (get_or bytes k 0) (drop (suc k) bytes) h
-    ∙ ap (λ (b : List ℕ). put page at b) (sym (drop-cons bytes k 0 l))
+-- so many of the bytes as have room stand there, and behind them what stood there before
+put_front : (page bytes : List ℕ) (n : ℕ) → n ≡ min (length bytes) (length page) → take n bytes ++ drop n page ≡ put page 0 bytes
+unfolding put
+put_front [] bytes zero e = refl
+put_front [] bytes (suc n) e = absurd (omega (arith, e))
+put_front (b ∷ page) [] zero e = refl
+put_front (b ∷ page) [] (suc n) e = absurd (omega (arith, e))
+put_front (b ∷ page) (x ∷ bytes) zero e = absurd (omega (arith, e))
+put_front (b ∷ page) (x ∷ bytes) (suc n) e = ap (λ (l : List ℕ). x ∷ l) (put_front page bytes n (omega (arith, e)))
+
+put_piece : (page : List ℕ) (at : ℕ) (bytes : List ℕ) (n : ℕ) → at ≤ length page → n ≡ min (length bytes) (length page - at)
+    → take at page ++ (take n bytes ++ drop n (drop at page)) ≡ put page at bytes
+unfolding put
+put_piece page zero bytes n h e = put_front page bytes n (omega (arith, e))
+put_piece [] (suc at) bytes n h e = absurd (omega arith)
+put_piece (b ∷ page) (suc at) bytes n h e = ap (λ (l : List ℕ). b ∷ l) (put_piece page at bytes n (omega arith) (omega (arith, e)))
+
+pub front_fits : (page : List ℕ) (used : ℕ) (bytes front : List ℕ) (n : ℕ) → used ≤ length page → n ≡ min (length bytes) (length page - used) → front ≡ take n bytes
+    → Added page used bytes (take used page ++ (front ++ drop ((used + n) - used) (drop used page))) (used + n)
+front_fits page used bytes front n h e f =
+    let many : (used + n) - used ≡ n = omega arith in
+    record {
+      ends = omega (arith, e);
+      stands = rw (many, f) (put_piece page used bytes n h e);
+    }
 
 -- where a text ends that was put: one step for each byte that had room
 ends : List ℕ → ℕ → List ℕ → ℕ

@@ -1,5 +1,5 @@
 -- How a number is written on a page.
-use Rattle.std.specs.Prelude.{ℕ, zero, suc, ◌+◌, ◌/◌, ◌^◌, min, cond, List, ◌∷◌, ◌++◌, ltb, take, replicate}
+use Rattle.std.specs.Prelude.{ℕ, zero, suc, ◌/◌, ◌^◌, min, cond, List, ◌∷◌, ◌++◌, ltb, take, replicate}
 use Rattle.io.specs.Digits.{last_digits}
 
 -- the first of k, k + 1, .. whose power of ten is above n; k + more at most

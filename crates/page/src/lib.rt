@@ -14,17 +14,10 @@ pub fn append(page: &mut [u8], used: usize, bytes: &[u8]) -> usize
     if page.len() < used {
         return page.len();
     }
-    let mut at = used;
-    let mut k = 0usize;
-    while k < bytes.len() {
-        if page.len() <= at {
-            return at;
-        }
-        page[at] = bytes[k];
-        at += 1;
-        k += 1;
-    }
-    at
+    let fits = bytes.len().min(page.len() - used);
+    let end = used + fits;
+    page[used..end].copy_from_slice(&bytes[..fits]);
+    end
 }
 
 // Adds a whole number by its fewest digits.
@@ -82,7 +75,7 @@ pub fn append_millionths(page: &mut [u8], used: usize, n: u64) -> usize
 fn mark_count(n: u64) -> usize
     ensures { result ≡ min n 60 }
 {
-    if n < 60 { n as usize } else { 60 }
+    n.min(60) as usize
 }
 
 // Adds a bar for the eye: n marks, and 60 at most.
