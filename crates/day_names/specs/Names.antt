@@ -1,17 +1,17 @@
 -- The names of a day file, as bytes, and what each stands for.
-use Rattle.std.specs.Prelude.{ℕ, Bool, ◌&&◌, cond, List, [], ◌∷◌, eqb, length}
+use Rattle.std.specs.Prelude.{ℕ, Bool, ◌&&◌, cond, Option, Some, None, List, [], ◌∷◌, eqb, length}
 use Rattle.text.specs.Fields.{same_text}
 use Rattle.day_line.specs.DayLine.{uncommented, field_of}
 use Rattle.day_names.specs.declared.Command.{Command}
-use Rattle.day_names.specs.declared.Command.TheVariants.{Nothing, Gamma, Policy, Acceptance, Drafter, Switch, Rates, Roofline, Table, Loaded, Prices, Plan, Collect, Withdraw, Series, SeriesBits, Day, Settles, Unknown}
+use Rattle.day_names.specs.declared.Command.TheVariants.{Nothing, Gamma, Policy, Acceptance, Drafter, Switch, Rates, Roofline, Table, Loaded, Prices, Plan, Collect, Withdraw, Series, SeriesBits, Day, Settles}
 use Rattle.day_names.specs.declared.PolicyName.{PolicyName}
-use Rattle.day_names.specs.declared.PolicyName.TheVariants.{Fixed, GoodputBudget, GatedBudget, GatedAggregate, Unknown as NoPolicy}
+use Rattle.day_names.specs.declared.PolicyName.TheVariants.{Fixed, GoodputBudget, GatedBudget, GatedAggregate}
 use Rattle.day_names.specs.declared.AcceptanceName.{AcceptanceName}
-use Rattle.day_names.specs.declared.AcceptanceName.TheVariants.{Constant, PerPosition, Trace, Unknown as NoAcceptance}
+use Rattle.day_names.specs.declared.AcceptanceName.TheVariants.{Constant, PerPosition, Trace}
 use Rattle.day_names.specs.declared.DrafterName.{DrafterName}
-use Rattle.day_names.specs.declared.DrafterName.TheVariants.{Fraction, Autoregressive, BlockParallel, Absent, Unknown as NoDrafter}
+use Rattle.day_names.specs.declared.DrafterName.TheVariants.{Fraction, Autoregressive, BlockParallel, Absent}
 use Rattle.day_names.specs.declared.PricesName.{PricesName}
-use Rattle.day_names.specs.declared.PricesName.TheVariants.{Default, Bridged, Unknown as NoPrices}
+use Rattle.day_names.specs.declared.PricesName.TheVariants.{Default, Bridged}
 
 -- `gamma`
 abbrev pub gamma_text : List ℕ
@@ -136,69 +136,69 @@ none_text = 110 ∷ 111 ∷ 110 ∷ 101 ∷ []
 abbrev pub is_none : List ℕ → Bool
 is_none name = same_text name none_text
 
--- the command of this name that acts or tells
-unfoldable pub act_named : List ℕ → Command
+-- the command of this name that acts or tells, none where there is none
+unfoldable pub act_named : List ℕ → Option Command
 act_named name =
-    cond (same_text name plan_text) Plan
-    (cond (same_text name collect_text) Collect
-    (cond (same_text name withdraw_text) Withdraw
-    (cond (same_text name series_text) Series
-    (cond (same_text name day_text) Day
-    (cond (same_text name settles_text) Settles
-    Unknown)))))
+    cond (same_text name plan_text) (Some Plan)
+    (cond (same_text name collect_text) (Some Collect)
+    (cond (same_text name withdraw_text) (Some Withdraw)
+    (cond (same_text name series_text) (Some Series)
+    (cond (same_text name day_text) (Some Day)
+    (cond (same_text name settles_text) (Some Settles)
+    None)))))
 
--- the command of this name
-unfoldable pub setting_named : List ℕ → Command
+-- the command of this name, none where there is none
+unfoldable pub setting_named : List ℕ → Option Command
 setting_named name =
-    cond (same_text name gamma_text) Gamma
-    (cond (same_text name policy_text) Policy
-    (cond (same_text name acceptance_text) Acceptance
-    (cond (same_text name drafter_text) Drafter
-    (cond (same_text name switch_text) Switch
-    (cond (same_text name rates_text) Rates
-    (cond (same_text name roofline_text) Roofline
-    (cond (same_text name table_text) Table
-    (cond (same_text name loaded_text) Loaded
-    (cond (same_text name prices_text) Prices
+    cond (same_text name gamma_text) (Some Gamma)
+    (cond (same_text name policy_text) (Some Policy)
+    (cond (same_text name acceptance_text) (Some Acceptance)
+    (cond (same_text name drafter_text) (Some Drafter)
+    (cond (same_text name switch_text) (Some Switch)
+    (cond (same_text name rates_text) (Some Rates)
+    (cond (same_text name roofline_text) (Some Roofline)
+    (cond (same_text name table_text) (Some Table)
+    (cond (same_text name loaded_text) (Some Loaded)
+    (cond (same_text name prices_text) (Some Prices)
     (act_named name))))))))))
 
 -- `series,bits`
 abbrev pub is_bit_series : List ℕ → Bool
 is_bit_series line = same_text (field_of line 0) series_text && same_text (field_of line 1) bits_text
 
--- the command of a line, by its first field; a line that is empty before its comment asks for nothing
-unfoldable pub command_of : List ℕ → Command
-command_of line = cond (eqb (length (uncommented line)) 0) Nothing (cond (is_bit_series line) SeriesBits (setting_named (field_of line 0)))
+-- the command of a line, by its first field, none where that is no command's name; a line that is empty before its comment asks for nothing
+unfoldable pub command_of : List ℕ → Option Command
+command_of line = cond (eqb (length (uncommented line)) 0) (Some Nothing) (cond (is_bit_series line) (Some SeriesBits) (setting_named (field_of line 0)))
 
--- the policy of this name
-unfoldable pub policy_of : List ℕ → PolicyName
+-- the policy of this name, if there is one
+unfoldable pub policy_of : List ℕ → Option PolicyName
 policy_of name =
-    cond (same_text name fixed_text) Fixed
-    (cond (same_text name goodput_budget_text) GoodputBudget
-    (cond (same_text name gated_budget_text) GatedBudget
-    (cond (same_text name gated_aggregate_text) GatedAggregate
-    NoPolicy)))
+    cond (same_text name fixed_text) (Some Fixed)
+    (cond (same_text name goodput_budget_text) (Some GoodputBudget)
+    (cond (same_text name gated_budget_text) (Some GatedBudget)
+    (cond (same_text name gated_aggregate_text) (Some GatedAggregate)
+    None)))
 
--- the way of accepting drafts of this name
-unfoldable pub acceptance_of : List ℕ → AcceptanceName
+-- the way of accepting drafts of this name, if there is one
+unfoldable pub acceptance_of : List ℕ → Option AcceptanceName
 acceptance_of name =
-    cond (same_text name constant_text) Constant
-    (cond (same_text name per_position_text) PerPosition
-    (cond (same_text name trace_text) Trace
-    NoAcceptance))
+    cond (same_text name constant_text) (Some Constant)
+    (cond (same_text name per_position_text) (Some PerPosition)
+    (cond (same_text name trace_text) (Some Trace)
+    None))
 
--- the drafter of this name; `none` is no drafter
-unfoldable pub drafter_of : List ℕ → DrafterName
+-- the drafter of this name, if there is one; `none` is no drafter
+unfoldable pub drafter_of : List ℕ → Option DrafterName
 drafter_of name =
-    cond (same_text name fraction_text) Fraction
-    (cond (same_text name autoregressive_text) Autoregressive
-    (cond (same_text name block_parallel_text) BlockParallel
-    (cond (same_text name none_text) Absent
-    NoDrafter)))
+    cond (same_text name fraction_text) (Some Fraction)
+    (cond (same_text name autoregressive_text) (Some Autoregressive)
+    (cond (same_text name block_parallel_text) (Some BlockParallel)
+    (cond (same_text name none_text) (Some Absent)
+    None)))
 
--- the price mode of this name
-unfoldable pub prices_of : List ℕ → PricesName
+-- the price mode of this name, if there is one
+unfoldable pub prices_of : List ℕ → Option PricesName
 prices_of name =
-    cond (same_text name default_text) Default
-    (cond (same_text name bridged_text) Bridged
-    NoPrices)
+    cond (same_text name default_text) (Some Default)
+    (cond (same_text name bridged_text) (Some Bridged)
+    None)

@@ -25,7 +25,6 @@ pub enum Command {
     SeriesBits,
     Day,
     Settles,
-    Unknown,
 }
 
 #[derive(Clone, Copy)]
@@ -34,7 +33,6 @@ pub enum PolicyName {
     GoodputBudget,
     GatedBudget,
     GatedAggregate,
-    Unknown,
 }
 
 #[derive(Clone, Copy)]
@@ -42,7 +40,6 @@ pub enum AcceptanceName {
     Constant,
     PerPosition,
     Trace,
-    Unknown,
 }
 
 #[derive(Clone, Copy)]
@@ -51,25 +48,24 @@ pub enum DrafterName {
     Autoregressive,
     BlockParallel,
     Absent,
-    Unknown,
 }
 
 #[derive(Clone, Copy)]
 pub enum PricesName {
     Default,
     Bridged,
-    Unknown,
 }
 
-// The command of a line, by its first field: a line that is empty before its comment asks for nothing.
-pub fn command_of(line: &[u8]) -> Command
+// The command of a line, by its first field; none where that is no command's name. A line that is empty before its comment asks for nothing.
+#[tactic(auto, unfolding(crate::specs::Names::command_of))]
+pub fn command_of(line: &[u8]) -> Option<Command>
     ensures { result ≡ command_of line.now }
 {
-    if day_line::uncommented(line).len() == 0 {
-        return Command::Nothing;
+    if day_line::uncommented(line).is_empty() {
+        return Some(Command::Nothing);
     }
     if is_bit_series(line) {
-        return Command::SeriesBits;
+        return Some(Command::SeriesBits);
     }
     setting_named(day_line::field(line, 0))
 }
@@ -78,139 +74,143 @@ pub fn command_of(line: &[u8]) -> Command
 fn is_bit_series(line: &[u8]) -> bool
     ensures { result ≡ is_bit_series line.now }
 {
-    if text::same(day_line::field(line, 0), b"series") {
-        return text::same(day_line::field(line, 1), b"bits");
-    }
-    false
+    text::same(day_line::field(line, 0), b"series") && text::same(day_line::field(line, 1), b"bits")
 }
 
-// The command of this name: those that set something first.
-fn setting_named(name: &[u8]) -> Command
+// The command of this name, if it is one: those that set something first.
+#[tactic(auto, unfolding(crate::specs::Names::setting_named))]
+fn setting_named(name: &[u8]) -> Option<Command>
     ensures { result ≡ setting_named name.now }
 {
     if text::same(name, b"gamma") {
-        return Command::Gamma;
+        return Some(Command::Gamma);
     }
     if text::same(name, b"policy") {
-        return Command::Policy;
+        return Some(Command::Policy);
     }
     if text::same(name, b"acceptance") {
-        return Command::Acceptance;
+        return Some(Command::Acceptance);
     }
     if text::same(name, b"drafter") {
-        return Command::Drafter;
+        return Some(Command::Drafter);
     }
     if text::same(name, b"switch") {
-        return Command::Switch;
+        return Some(Command::Switch);
     }
     if text::same(name, b"rates") {
-        return Command::Rates;
+        return Some(Command::Rates);
     }
     if text::same(name, b"roofline") {
-        return Command::Roofline;
+        return Some(Command::Roofline);
     }
     if text::same(name, b"table") {
-        return Command::Table;
+        return Some(Command::Table);
     }
     if text::same(name, b"loaded") {
-        return Command::Loaded;
+        return Some(Command::Loaded);
     }
     if text::same(name, b"prices") {
-        return Command::Prices;
+        return Some(Command::Prices);
     }
     act_named(name)
 }
 
-// The command of this name that acts or tells.
-fn act_named(name: &[u8]) -> Command
+// The command of this name that acts or tells, if it is one.
+#[tactic(auto, unfolding(crate::specs::Names::act_named))]
+fn act_named(name: &[u8]) -> Option<Command>
     ensures { result ≡ act_named name.now }
 {
     if text::same(name, b"plan") {
-        return Command::Plan;
+        return Some(Command::Plan);
     }
     if text::same(name, b"collect") {
-        return Command::Collect;
+        return Some(Command::Collect);
     }
     if text::same(name, b"withdraw") {
-        return Command::Withdraw;
+        return Some(Command::Withdraw);
     }
     if text::same(name, b"series") {
-        return Command::Series;
+        return Some(Command::Series);
     }
     if text::same(name, b"day") {
-        return Command::Day;
+        return Some(Command::Day);
     }
     if text::same(name, b"settles") {
-        return Command::Settles;
+        return Some(Command::Settles);
     }
-    Command::Unknown
+    None
 }
 
-// The policy of this name.
-pub fn policy_of(name: &[u8]) -> PolicyName
+// The policy of this name, if there is one.
+#[tactic(auto, unfolding(crate::specs::Names::policy_of))]
+pub fn policy_of(name: &[u8]) -> Option<PolicyName>
     ensures { result ≡ policy_of name.now }
 {
     if text::same(name, b"fixed") {
-        return PolicyName::Fixed;
+        return Some(PolicyName::Fixed);
     }
     if text::same(name, b"goodput_budget") {
-        return PolicyName::GoodputBudget;
+        return Some(PolicyName::GoodputBudget);
     }
     if text::same(name, b"gated_budget") {
-        return PolicyName::GatedBudget;
+        return Some(PolicyName::GatedBudget);
     }
     if text::same(name, b"gated_aggregate") {
-        return PolicyName::GatedAggregate;
+        return Some(PolicyName::GatedAggregate);
     }
-    PolicyName::Unknown
+    None
 }
 
-// The way of accepting drafts of this name.
-pub fn acceptance_of(name: &[u8]) -> AcceptanceName
+// The way of accepting drafts of this name, if there is one.
+#[tactic(auto, unfolding(crate::specs::Names::acceptance_of))]
+pub fn acceptance_of(name: &[u8]) -> Option<AcceptanceName>
     ensures { result ≡ acceptance_of name.now }
 {
     if text::same(name, b"constant") {
-        return AcceptanceName::Constant;
+        return Some(AcceptanceName::Constant);
     }
     if text::same(name, b"per_position") {
-        return AcceptanceName::PerPosition;
+        return Some(AcceptanceName::PerPosition);
     }
     if text::same(name, b"trace") {
-        return AcceptanceName::Trace;
+        return Some(AcceptanceName::Trace);
     }
-    AcceptanceName::Unknown
+    None
 }
 
-// The drafter of this name; `none` is no drafter.
-pub fn drafter_of(name: &[u8]) -> DrafterName
+// The drafter of this name, if there is one; `none` is no drafter.
+#[tactic(auto, unfolding(crate::specs::Names::drafter_of))]
+pub fn drafter_of(name: &[u8]) -> Option<DrafterName>
     ensures { result ≡ drafter_of name.now }
 {
     if text::same(name, b"fraction") {
-        return DrafterName::Fraction;
+        return Some(DrafterName::Fraction);
     }
     if text::same(name, b"autoregressive") {
-        return DrafterName::Autoregressive;
+        return Some(DrafterName::Autoregressive);
     }
     if text::same(name, b"block_parallel") {
-        return DrafterName::BlockParallel;
+        return Some(DrafterName::BlockParallel);
     }
     if is_none(name) {
-        return DrafterName::Absent;
+        return Some(DrafterName::Absent);
     }
-    DrafterName::Unknown
+    None
 }
 
-// The price mode of this name.
-pub fn prices_of(name: &[u8]) -> PricesName
+// The price mode of this name, if there is one.
+#[tactic(auto, unfolding(crate::specs::Names::prices_of))]
+pub fn prices_of(name: &[u8]) -> Option<PricesName>
     ensures { result ≡ prices_of name.now }
 {
     if text::same(name, b"default") {
-        return PricesName::Default;
+        return Some(PricesName::Default);
     }
     if text::same(name, b"bridged") {
-        return PricesName::Bridged;
+        Some(PricesName::Bridged)
+    } else {
+        None
     }
-    PricesName::Unknown
 }
 
 // Whether a field is `none`.
