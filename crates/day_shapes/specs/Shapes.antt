@@ -1,16 +1,22 @@
 -- What the fields of a line have to be: a shape has a letter for each of them.
-use Rattle.std.specs.Prelude.{ℕ, suc, cond, List, [], ◌∷◌, eqb, get_or, drop}
+use Rattle.std.specs.Prelude.{ℕ, suc, cond, ⊤, Option, Some, None, Result, Ok, Err, List, [], ◌∷◌, eqb, get_or, drop}
 use Rattle.trimming.specs.Trim.{trimmed}
-use Rattle.numeral.specs.Refusals.{whole_refusal}
+use Rattle.refusals.specs.declared.Refusal.{Refusal}
+use Rattle.refusals.specs.Refusals.{number_of}
 use Rattle.numeral.specs.Spelling.{whole_of}
-use Rattle.decimals.specs.Decimals.{decimal_refusal, decimal_of}
-use Rattle.day_names.specs.declared.PolicyName.{PolicyName}
-use Rattle.day_names.specs.declared.PolicyName.TheVariants.{Fixed, GoodputBudget, GatedBudget, GatedAggregate, Unknown as NoPolicy}
-use Rattle.day_names.specs.declared.PricesName.{PricesName}
-use Rattle.day_names.specs.declared.PricesName.TheVariants.{Default, Bridged, Unknown as NoPrices}
+use Rattle.decimals.specs.Decimals.{decimal_of}
 use Rattle.day_names.specs.Names.{policy_of, prices_of, is_none}
-use Rattle.day_shapes.specs.declared.Judged.{Judged}
-use Rattle.day_shapes.specs.declared.Judged.TheVariants.{Right, Wrong}
+use Rattle.day_shapes.specs.declared.Expected.{Expected}
+use Rattle.day_shapes.specs.declared.Expected.TheVariants.{MoreFields, NoMoreFields, OneOfTheNames, Number, KnownCommand}
+use Rattle.day_shapes.specs.declared.WrongField.{WrongField}
+
+-- the number that tells what was expected: of a number, that of the refusal
+abbrev pub expected_number : Expected → ℕ
+expected_number MoreFields = 1
+expected_number NoMoreFields = 2
+expected_number OneOfTheNames = 3
+expected_number (Number refusal) = number_of refusal
+expected_number KnownCommand = 8
 
 -- ---- the letters: t, w, d, n, p, m and *
 abbrev pub any_text : ℕ
@@ -34,40 +40,32 @@ prices = 109
 abbrev pub following : ℕ
 following = 42
 
--- ---- one field: what was expected, 0 where nothing is wrong
+-- ---- one field: passed, or what was expected
 
-abbrev pub policy_number : PolicyName → ℕ
-policy_number Fixed = 0
-policy_number GoodputBudget = 0
-policy_number GatedBudget = 0
-policy_number GatedAggregate = 0
-policy_number NoPolicy = 3
+-- what was read has to be a number
+abbrev pub number_judged : {A : Type 0} → Result A Refusal → Result ⊤ Expected
+number_judged (Ok value) = Ok tt
+number_judged (Err refusal) = Err (Number refusal)
 
-abbrev pub policy_wrong : List ℕ → ℕ
-policy_wrong field = policy_number (policy_of field)
+-- what was named has to be there
+abbrev pub name_judged : {A : Type 0} → Option A → Result ⊤ Expected
+name_judged (Some name) = Ok tt
+name_judged None = Err OneOfTheNames
 
-abbrev pub prices_number : PricesName → ℕ
-prices_number Default = 0
-prices_number Bridged = 0
-prices_number NoPrices = 3
+abbrev pub option_judged : List ℕ → Result ⊤ Expected
+option_judged field = cond (is_none field) (Ok tt) (number_judged (whole_of field))
 
-abbrev pub prices_wrong : List ℕ → ℕ
-prices_wrong field = prices_number (prices_of field)
-
-abbrev pub option_wrong : List ℕ → ℕ
-option_wrong field = cond (is_none field) 0 (whole_refusal (whole_of field))
-
--- 2: no letter is left for the field
-unfoldable pub field_wrong : ℕ → List ℕ → ℕ
-field_wrong letter field =
-    cond (eqb letter any_text) 0
-    (cond (eqb letter whole) (whole_refusal (whole_of field))
-    (cond (eqb letter decimal) (decimal_refusal (decimal_of field))
-    (cond (eqb letter whole_or_none) (option_wrong field)
-    (cond (eqb letter policy) (policy_wrong field)
-    (cond (eqb letter prices) (prices_wrong field)
-    (cond (eqb letter following) 0
-    2))))))
+-- no more fields: no letter is left for the field
+unfoldable pub field_judged : ℕ → List ℕ → Result ⊤ Expected
+field_judged letter field =
+    cond (eqb letter any_text) (Ok tt)
+    (cond (eqb letter whole) (number_judged (whole_of field))
+    (cond (eqb letter decimal) (number_judged (decimal_of field))
+    (cond (eqb letter whole_or_none) (option_judged field)
+    (cond (eqb letter policy) (name_judged (policy_of field))
+    (cond (eqb letter prices) (name_judged (prices_of field))
+    (cond (eqb letter following) (Ok tt)
+    (Err NoMoreFields)))))))
 
 -- ---- the fields of a line, from the one at a place on
 
@@ -76,15 +74,16 @@ abbrev pub step_of : List ℕ → ℕ
 step_of [] = 0
 step_of (letter ∷ shape) = cond (eqb letter following) 0 1
 
--- 1: a letter is left, and no field
-abbrev pub end_judged : List ℕ → ℕ → Judged
-end_judged [] place = Right
-end_judged (letter ∷ shape) place = cond (eqb letter following) Right (Wrong place 1)
+-- more fields: a letter is left, and no field
+abbrev pub end_judged : List ℕ → ℕ → Result ⊤ WrongField
+end_judged [] place = Ok tt
+end_judged (letter ∷ shape) place = cond (eqb letter following) (Ok tt) (Err (record { field = place; expected = MoreFields }))
 
-abbrev pub or_wrong : ℕ → ℕ → Judged → Judged
-or_wrong number place later = cond (eqb number 0) later (Wrong place number)
+abbrev pub or_wrong : Result ⊤ Expected → ℕ → Result ⊤ WrongField → Result ⊤ WrongField
+or_wrong (Ok passed) place later = later
+or_wrong (Err expected) place later = Err (record { field = place; expected = expected })
 
-abbrev pub shape_judged : ℕ → List ℕ → List (List ℕ) → Judged
+abbrev pub shape_judged : ℕ → List ℕ → List (List ℕ) → Result ⊤ WrongField
 shape_judged place shape [] = end_judged shape place
 shape_judged place shape (field ∷ rest) =
-    or_wrong (field_wrong (get_or shape 0 0) (trimmed field)) place (shape_judged (suc place) (drop (step_of shape) shape) rest)
+    or_wrong (field_judged (get_or shape 0 0) (trimmed field)) place (shape_judged (suc place) (drop (step_of shape) shape) rest)

@@ -6,43 +6,69 @@
 ghost use Rattle.std.specs.Prelude.{◌≡◌, ◌≤◌, length, get_or, take};
 ghost use Rattle.text.specs.Fields.{fields};
 ghost use Rattle.trimming.specs.Trim.{trimmed};
-ghost use Rattle.numeral.specs.Refusals.{whole_refusal};
 ghost use Rattle.numeral.specs.Spelling.{whole_of};
+ghost use Rattle.decimals.specs.Decimals.{decimal_of};
 ghost use Rattle.day_line.specs.DayLine.{uncommented};
-ghost use Rattle.day_shapes.specs.Shapes.{step_of, policy_wrong, prices_wrong, option_wrong, field_wrong, end_judged, shape_judged};
+ghost use Rattle.day_shapes.specs.Shapes.{expected_number, step_of, number_judged, name_judged, option_judged, field_judged, end_judged, shape_judged};
 
-use day_names::{PolicyName, PricesName};
+use refusals::Refusal;
 
-// Every field is what it has to be; or the first that is not, counted from 0, and what was expected there:
-// 1 more fields, 2 no more fields, 3 one of the names, 5 a whole number, 6 a decimal, 7 a decimal of fewer digits.
+// What has to stand where something else does.
 #[derive(Clone, Copy)]
-pub enum Judged {
-    Right,
-    Wrong { field: u64, expected: u64 },
+pub enum Expected {
+    MoreFields,
+    NoMoreFields,
+    OneOfTheNames,
+    // A number: what stands there is refused so.
+    Number(Refusal),
+    KnownCommand,
 }
 
-// The first field of a line that is not of its shape.
-pub fn shape_judged(line: &[u8], shape: &[u8]) -> Judged
+impl Expected {
+    // The number that tells it: 1 more fields, 2 no more fields, 3 one of the names, 5 a whole number, 6 a decimal, 7 a decimal of fewer digits,
+    // 8 a known command.
+    pub fn number(self) -> u64
+        ensures { result ≡ expected_number self }
+    {
+        match self {
+            Expected::MoreFields => 1,
+            Expected::NoMoreFields => 2,
+            Expected::OneOfTheNames => 3,
+            Expected::Number(refusal) => refusal.number(),
+            Expected::KnownCommand => 8,
+        }
+    }
+}
+
+// A field that is not what it has to be, counted from 0, and what was expected there.
+#[derive(Clone, Copy)]
+pub struct WrongField {
+    pub field: u64,
+    pub expected: Expected,
+}
+
+// Refuses the first field of a line that is not of its shape.
+pub fn shape_judged(line: &[u8], shape: &[u8]) -> Result<(), WrongField>
     ensures { result ≡ shape_judged 0 shape.now (fields (uncommented line.now)) }
 {
     fields_judged(day_line::uncommented(line), shape)
 }
 
 // The same of a line that has no comment.
-fn fields_judged(line: &[u8], shape: &[u8]) -> Judged
+fn fields_judged(line: &[u8], shape: &[u8]) -> Result<(), WrongField>
     ensures { result ≡ shape_judged 0 shape.now (fields line.now) }
 {
     let mut rest = line;
     let mut left = shape;
     let mut place = 0u64;
+    // No index is counted: each turn takes the rest behind a comma, and what is left of the shape.
     loop {
         let comma = blocks::near::find(rest, b',');
-        let number = wrong_to(rest, comma, left);
-        if number != 0 {
-            return Judged::Wrong {
+        if let Err(expected) = judge_to(rest, comma, left) {
+            return Err(WrongField {
                 field: place,
-                expected: number,
-            };
+                expected,
+            });
         }
         let step = step_of(left);
         left = &left[step..];
@@ -55,12 +81,12 @@ fn fields_judged(line: &[u8], shape: &[u8]) -> Judged
     }
 }
 
-// What is wrong with the field up to a comma, which has to be of the shape's first letter: 0 for nothing.
-fn wrong_to(rest: &[u8], comma: usize, shape: &[u8]) -> u64
+// Judges the field up to a comma, which has to be of the shape's first letter.
+fn judge_to(rest: &[u8], comma: usize, shape: &[u8]) -> Result<(), Expected>
     requires { comma ≤ length rest.now }
-    ensures { result ≡ field_wrong (get_or shape.now 0 0) (trimmed (take comma rest.now)) }
+    ensures { result ≡ field_judged (get_or shape.now 0 0) (trimmed (take comma rest.now)) }
 {
-    field_wrong(first_letter(shape), trimming::trim(&rest[..comma]))
+    judge_field(first_letter(shape), trimming::trim(&rest[..comma]))
 }
 
 // The first letter of a shape, 0 where none is left.
@@ -74,99 +100,79 @@ fn first_letter(shape: &[u8]) -> u8
 fn step_of(shape: &[u8]) -> usize
     ensures { result ≡ step_of shape.now }
 {
-    if 0 < shape.len() {
-        if shape[0] == b'*' {
-            return 0;
-        }
-        return 1;
+    if 0 < shape.len() && shape[0] != b'*' {
+        1
+    } else {
+        0
     }
-    0
 }
 
 // The answer at the line's end, after so many fields.
-fn end_judged(shape: &[u8], place: u64) -> Judged
+fn end_judged(shape: &[u8], place: u64) -> Result<(), WrongField>
     ensures { result ≡ end_judged shape.now place }
 {
-    if 0 < shape.len() {
-        if shape[0] == b'*' {
-            return Judged::Right;
-        }
-        return Judged::Wrong {
+    if 0 < shape.len() && shape[0] != b'*' {
+        Err(WrongField {
             field: place,
-            expected: 1,
-        };
+            expected: Expected::MoreFields,
+        })
+    } else {
+        Ok(())
     }
-    Judged::Right
 }
 
-// What is wrong with a field that has to be of a letter: 0 for nothing.
-fn field_wrong(letter: u8, field: &[u8]) -> u64
-    ensures { result ≡ field_wrong letter field.now }
+// Judges a field that has to be of a letter.
+#[tactic(auto, unfolding(crate::specs::Shapes::field_judged))]
+fn judge_field(letter: u8, field: &[u8]) -> Result<(), Expected>
+    ensures { result ≡ field_judged letter field.now }
 {
-    if letter == b't' {
-        return 0;
+    match letter {
+        b't' => Ok(()),
+        b'w' => judge_whole(field),
+        b'd' => judge_decimal(field),
+        b'n' => judge_option(field),
+        b'p' => judge_name(day_names::policy_of(field)),
+        b'm' => judge_name(day_names::prices_of(field)),
+        b'*' => Ok(()),
+        _ => Err(Expected::NoMoreFields),
     }
-    if letter == b'w' {
-        return whole_wrong(field);
-    }
-    if letter == b'd' {
-        return numeral::decimal_refusal(field);
-    }
-    if letter == b'n' {
-        return option_wrong(field);
-    }
-    if letter == b'p' {
-        return policy_wrong(field);
-    }
-    if letter == b'm' {
-        return prices_wrong(field);
-    }
-    if letter == b'*' {
-        return 0;
-    }
-    2
 }
 
-// 5 for what is no whole number.
-fn whole_wrong(field: &[u8]) -> u64
-    ensures { result ≡ whole_refusal (whole_of field.now) }
+fn judge_whole(field: &[u8]) -> Result<(), Expected>
+    ensures { result ≡ number_judged (whole_of field.now) }
 {
-    let read = numeral::whole(field);
-    read.refusal()
+    match numeral::whole(field) {
+        Ok(_) => Ok(()),
+        Err(refusal) => Err(Expected::Number(refusal)),
+    }
 }
 
-// 5 for what is neither `none` nor a whole number.
-fn option_wrong(field: &[u8]) -> u64
-    ensures { result ≡ option_wrong field.now }
+fn judge_decimal(field: &[u8]) -> Result<(), Expected>
+    ensures { result ≡ number_judged (decimal_of field.now) }
+{
+    match numeral::judge_decimal(field) {
+        Ok(()) => Ok(()),
+        Err(refusal) => Err(Expected::Number(refusal)),
+    }
+}
+
+// Passes `none` and whole numbers.
+fn judge_option(field: &[u8]) -> Result<(), Expected>
+    ensures { result ≡ option_judged field.now }
 {
     if day_names::is_none(field) {
-        return 0;
-    }
-    whole_wrong(field)
-}
-
-// 3 for what is no policy's name.
-fn policy_wrong(field: &[u8]) -> u64
-    ensures { result ≡ policy_wrong field.now }
-{
-    let named = day_names::policy_of(field);
-    match named {
-        PolicyName::Fixed => 0,
-        PolicyName::GoodputBudget => 0,
-        PolicyName::GatedBudget => 0,
-        PolicyName::GatedAggregate => 0,
-        PolicyName::Unknown => 3,
+        Ok(())
+    } else {
+        judge_whole(field)
     }
 }
 
-// 3 for what is no price mode's name.
-fn prices_wrong(field: &[u8]) -> u64
-    ensures { result ≡ prices_wrong field.now }
+// Passes what has been named.
+fn judge_name<N: Copy>(named: Option<N>) -> Result<(), Expected>
+    ensures { result ≡ name_judged named }
 {
-    let named = day_names::prices_of(field);
     match named {
-        PricesName::Default => 0,
-        PricesName::Bridged => 0,
-        PricesName::Unknown => 3,
+        Some(_) => Ok(()),
+        None => Err(Expected::OneOfTheNames),
     }
 }
