@@ -10,10 +10,7 @@ pub fn beside(day: &[u8], name: &[u8], out: &mut [u8]) -> usize
     ensures { (result, out.new) ≡ placed_beside day.now name.now out.old }
 {
     let kept = kept_of(day, name);
-    if out.len() < kept {
-        return 0;
-    }
-    if out.len() - kept < name.len() {
+    if out.len() < kept || out.len() - kept < name.len() {
         return 0;
     }
     put_both(&day[..kept], name, out)
@@ -37,22 +34,20 @@ fn kept_of(day: &[u8], name: &[u8]) -> usize
     ensures { result ≡ kept_of day.now name.now }
 {
     if text::starts_with(name, b'/') {
-        return 0;
+        0
+    } else {
+        folder_length(day)
     }
-    folder_length(day)
 }
 
 // How many bytes a path has up to its last `/` and with it.
 fn folder_length(path: &[u8]) -> usize
     ensures { result ≡ folder_length path.now }
 {
-    let mut stop = path.len();
-    while 0 < stop {
-        let last = stop - 1;
+    for last in (0..path.len()).rev() {
         if path[last] == b'/' {
-            return stop;
+            return last + 1;
         }
-        stop = last;
     }
     0
 }
