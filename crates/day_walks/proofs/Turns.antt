@@ -1,12 +1,11 @@
 -- Laws of walks over the fields of a list: a field that passes, one that does not, one whose value is stored. Assumes nothing.
 use mathlib.Core.Path.{◌≡◌, sym, ap, ◌∙◌, subst}
-use mathlib.Core.Bool.{Bool, cond}
 use mathlib.Core.Logic.{⊎_elim}
 use mathlib.Core.List.{List, ◌∷◌}
 use Prim.Native.Nat.{ℕ, suc, ◌+◌, ◌-◌, ◌<◌, min}
 use native.Mathlib.Numerals.{add-one}
 use native.Mathlib.Omega.{arith}
-use borrow.Author.Tests.{eq-eqb, ne_eqb, ltb-true, ltb-false}
+use borrow.Author.Tests.{ltb-true, ltb-false}
 use lib.Dec.{ltb}
 use lib.ListN.{length, take, drop, set}
 use Rattle.blocks.specs.Blocks.{find}
@@ -14,28 +13,26 @@ use Rattle.text.specs.Fields.{fields}
 use Rattle.blocks.proofs.Finding.{test}
 use Rattle.text.proofs.Walk.{field_last, field_next, drop_more}
 use Rattle.bank_curve.proofs.Stores.{Storing, storing_next}
-use Rattle.day_walks.specs.Walks.{first_wrong, each}
+use Rattle.std.specs.Prelude.{⊤, Result, Ok, Err}
+use Rattle.refusals.specs.Refusals.{Judgement}
+use Rattle.day_walks.specs.declared.WrongNumber.{WrongNumber}
+use Rattle.day_walks.specs.Walks.{at_field, unless, fields_judged, each}
 
--- ---- a field f of which the code found n wrong
+-- ---- the walk's turn: the first field of s is its first n bytes, of which the code said m
 
-module _ (wrong : List ℕ → ℕ) (place : ℕ) (f : List ℕ) (fs : List (List ℕ)) (n : ℕ) (e : n ≡ wrong f) where
-  pub field_passes : n ≡ 0 → first_wrong wrong place (f ∷ fs) ≡ first_wrong wrong (place + 1) fs
-  field_passes z =
-      ap (λ (b : Bool). cond b (first_wrong wrong (suc place) fs) (record { field = place; expected = wrong f })) (eq-eqb (wrong f) 0 (sym e ∙ z))
-      ∙ ap (λ (k : ℕ). first_wrong wrong k fs) (sym (add-one place))
+module _ (judged : List ℕ → Judgement) (place : ℕ) (s : List ℕ) (n : ℕ) (m : Result ⊤ WrongNumber) (fs : List (List ℕ)) (e : fields s ≡ take n s ∷ fs) (f : m ≡ at_field (judged (take n s)) place) where
+  -- the answer, with what was said in place
+  abbrev opened : Result ⊤ WrongNumber → Result ℕ WrongNumber
+  opened said = unless said (fields_judged judged (suc place) fs)
 
-  pub field_stops : (n ≡ 0 → ⊥) → record { field = place; expected = n } ≡ first_wrong wrong place (f ∷ fs)
-  field_stops z =
-      ap (λ (m : ℕ). record { field = place; expected = m }) e
-      ∙ sym (ap (λ (b : Bool). cond b (first_wrong wrong (suc place) fs) (record { field = place; expected = wrong f })) (ne_eqb (wrong f) 0 (λ t. z (e ∙ t))))
+  turn : fields_judged judged place (fields s) ≡ opened m
+  turn = ap (fields_judged judged place) e ∙ ap opened (sym f)
 
--- the walk's turn: the first field of s is its first n bytes, of which the code found m wrong
-module _ (wrong : List ℕ → ℕ) (place : ℕ) (s : List ℕ) (n m : ℕ) (fs : List (List ℕ)) (e : fields s ≡ take n s ∷ fs) (f : m ≡ wrong (take n s)) where
-  pub walk_passes : m ≡ 0 → first_wrong wrong place (fields s) ≡ first_wrong wrong (place + 1) fs
-  walk_passes z = ap (first_wrong wrong place) e ∙ field_passes wrong place (take n s) fs m f z
+  pub walk_passes : (x : ⊤) → m ≡ Ok x → fields_judged judged place (fields s) ≡ fields_judged judged (place + 1) fs
+  walk_passes x z = turn ∙ ap opened z ∙ ap (λ (k : ℕ). fields_judged judged k fs) (sym (add-one place))
 
-  pub walk_stops : (m ≡ 0 → ⊥) → record { field = place; expected = m } ≡ first_wrong wrong place (fields s)
-  walk_stops z = field_stops wrong place (take n s) fs m f z ∙ ap (first_wrong wrong place) (sym e)
+  pub walk_stops : (q : WrongNumber) → m ≡ Err q → Err q ≡ fields_judged judged place (fields s)
+  walk_stops q z = sym (turn ∙ ap opened z)
 
 -- ---- a value v that was read is stored
 

@@ -1,23 +1,33 @@
 -- A list of numbers in a day file's line, over the list of its fields.
-use Rattle.std.specs.Prelude.{ℕ, suc, cond, List, [], ◌∷◌, eqb, Float}
+use Rattle.std.specs.Prelude.{ℕ, suc, List, [], ◌∷◌, Float, ⊤, Result, Ok, Err}
+use Rattle.refusals.specs.Refusals.{Judgement}
 use Rattle.trimming.specs.Trim.{trimmed}
-use Rattle.numeral.specs.Refusals.{whole_refusal}
 use Rattle.numeral.specs.Spelling.{whole_of}
-use Rattle.decimals.specs.Decimals.{decimal_refusal, decimal_of}
+use Rattle.decimals.specs.Decimals.{decimal_of, without_value}
 use Rattle.bank_fill.specs.Fill.{whole_value, decimal_value}
-use Rattle.day_walks.specs.declared.Wrong.{Wrong}
+use Rattle.day_walks.specs.declared.WrongNumber.{WrongNumber}
 
--- what is wrong with a field, blanks around it apart, 0 for nothing: 5 is no whole number, 6 no decimal, 7 a decimal of too many digits
-abbrev pub whole_wrong : List ℕ → ℕ
-whole_wrong field = whole_refusal (whole_of (trimmed field))
+-- whether a field says a number, blanks around it apart
+abbrev pub whole_judged : List ℕ → Judgement
+whole_judged field = without_value (whole_of (trimmed field))
 
-abbrev pub decimal_wrong : List ℕ → ℕ
-decimal_wrong field = decimal_refusal (decimal_of (trimmed field))
+abbrev pub decimal_judged : List ℕ → Judgement
+decimal_judged field = without_value (decimal_of (trimmed field))
 
--- the first field that is wrong, counted from a place on, and what is expected there; where none is, the place behind the last one, and 0
-abbrev pub first_wrong : (List ℕ → ℕ) → ℕ → List (List ℕ) → Wrong
-first_wrong wrong place [] = record { field = place; expected = 0 }
-first_wrong wrong place (field ∷ rest) = cond (eqb (wrong field) 0) (first_wrong wrong (suc place) rest) (record { field = place; expected = wrong field })
+-- a judgement of a field, with its place
+abbrev pub at_field : Judgement → ℕ → Result ⊤ WrongNumber
+at_field (Ok passed) place = Ok tt
+at_field (Err refusal) place = Err (record { field = place; refusal = refusal })
+
+-- the answer, unless a field is refused before it
+abbrev pub unless : {A : Type 0} → Result ⊤ WrongNumber → Result A WrongNumber → Result A WrongNumber
+unless (Ok passed) answer = answer
+unless (Err wrong) answer = Err wrong
+
+-- the place behind the last field, counted from a place on, unless a field is wrong: the first one is refused
+abbrev pub fields_judged : (List ℕ → Judgement) → ℕ → List (List ℕ) → Result ℕ WrongNumber
+fields_judged judged place [] = Ok place
+fields_judged judged place (field ∷ rest) = unless (at_field (judged field) place) (fields_judged judged (suc place) rest)
 
 -- the value of a field
 abbrev pub whole_read : List ℕ → ℕ

@@ -3,9 +3,11 @@
 
 pub mod inner;
 
-// The first field of a list that is wrong, and what is expected there; where none is, the place behind the last one, and 0.
+use refusals::Refusal;
+
+// The first field of a list that is no such number, and why.
 #[derive(Clone, Copy)]
-pub struct Wrong {
+pub struct WrongNumber {
     pub field: u64,
-    pub expected: u64,
+    pub refusal: Refusal,
 }

@@ -1,7 +1,0 @@
--- `day_walks::inner::put_whole` meets its contract: a store past the end stores nothing. Assumes nothing.
-use mathlib.Core.Path.{sym}
-use lib.Seq.{set_out}
-use Rattle.day_walks.proofs.inner.put_whole.Goals as goal
-
-pub returns-clause-stored : goal.returns-clause-stored
-returns-clause-stored c = sym (set_out c.args.buffer.now c.args.at c.args.value c.if-at-buffer.false)
