@@ -1,8 +1,7 @@
 // An answer as a column of a case: sixteen hexadecimal digits, or fifteen dashes and the refusal's number.
 ghost use Rattle.std.specs.Prelude.{◌<◌};
 
-use decimals::Decimal;
-use numeral::answer::Whole;
+use refusals::Refusal;
 
 #[derive(Clone, Copy)]
 pub struct Column {
@@ -12,29 +11,17 @@ pub struct Column {
 
 // What we answer to a case's text.
 pub fn of_text(kind: u8, text: &[u8]) -> Column {
-    if kind == b'd' {
-        return of_decimal(text);
-    }
-    if kind == b'w' {
-        return of_whole(text);
-    }
-    of_value(numeral::second(float::of_bits(bits_in(text))))
-}
-
-fn of_decimal(text: &[u8]) -> Column {
-    let read = numeral::decimal(text);
-    match read {
-        Decimal::Value(x) => of_value(float::bits(x)),
-        Decimal::Malformed => of_refusal(read.refusal()),
-        Decimal::TooLong => of_refusal(read.refusal()),
+    match kind {
+        b'd' => of_read(numeral::decimal(text).map(|x| float::bits(x))),
+        b'w' => of_read(numeral::whole(text).map(|n| n as u64)),
+        _ => of_value(numeral::second(float::of_bits(bits_in(text)))),
     }
 }
 
-fn of_whole(text: &[u8]) -> Column {
-    let read = numeral::whole(text);
+fn of_read(read: Result<u64, Refusal>) -> Column {
     match read {
-        Whole::Value(n) => of_value(n as u64),
-        Whole::Malformed => of_refusal(read.refusal()),
+        Ok(n) => of_value(n),
+        Err(refusal) => of_refusal(refusal.number()),
     }
 }
 
@@ -59,11 +46,8 @@ fn of_refusal(number: u64) -> Column {
 // The number that hexadecimal digits spell, of which the last sixteen count.
 fn bits_in(text: &[u8]) -> u64 {
     let mut value = 0u64;
-    let mut at = 0usize;
-    while at < text.len() {
-        let digit = hex_digit(text[at]);
-        value = value % 0x1000_0000_0000_0000 * 16 + digit;
-        at += 1;
+    for b in text {
+        value = value % 0x1000_0000_0000_0000 * 16 + hex_digit(*b);
     }
     value
 }

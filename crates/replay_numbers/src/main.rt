@@ -5,7 +5,7 @@
 mod column;
 mod tally;
 
-ghost use Rattle.std.specs.Prelude.{◌≤◌, length};
+ghost use Rattle.std.specs.Prelude.{◌≤◌, ◌<◌, length, IfSome};
 
 use column::Column;
 use std::fs::File;
@@ -47,18 +47,15 @@ fn replay_file(rt: HostRuntime, name: &[u8]) {
 fn replay(rt: HostRuntime, file: &mut File, room: &mut [u8]) {
     let mut end = case_files::refill(file, room, 0, 0);
     let mut at = case_files::print_line(rt, &room[..end]);
-    let mut tally = Tally::new();
-    let mut fillings = 0u64;
-    while fillings < FILLINGS {
-        fillings += 1;
+    let mut tally = Tally::default();
+    for _ in 0..FILLINGS {
         end = case_files::refill(file, room, at, end);
         if end == 0 {
             tally.print(rt);
             return;
         }
         let run = cases_in(tally, &room[..end]);
-        let next = run.tally;
-        tally = next;
+        tally = run.tally;
         at = run.end;
         if at == 0 {
             let _ = rt.write_all(b"what follows is no case\n");
@@ -71,14 +68,8 @@ fn replay(rt: HostRuntime, file: &mut File, room: &mut [u8]) {
 fn cases_in(tally: Tally, bytes: &[u8]) -> Run {
     let mut so_far = tally;
     let mut at = 0usize;
-    while at < bytes.len() {
-        let size = case_size(&bytes[at..]);
-        if size == 0 {
-            return Run {
-                tally: so_far,
-                end: at,
-            };
-        }
+    // No index is counted: each turn goes on by a case's own size.
+    while let Some(size) = case_size(&bytes[at..]) {
         let next = at + size;
         so_far = case_in(so_far, &bytes[at..next]);
         at = next;
@@ -89,25 +80,20 @@ fn cases_in(tally: Tally, bytes: &[u8]) -> Run {
     }
 }
 
-// How many bytes the case has that the bytes start with, and 0 where they start with none.
-fn case_size(bytes: &[u8]) -> usize
-    ensures { result ≤ length bytes.now }
+// How many bytes the case has that the bytes start with, where they start with one.
+fn case_size(bytes: &[u8]) -> Option<usize>
+    ensures { IfSome result (λ size. (0 < size) × (size ≤ length bytes.now)) }
 {
     if bytes.len() < COLUMNS {
-        return 0;
+        return None;
     }
-    let length = numeral::whole(&bytes[36..39]);
-    let numeral::answer::Whole::Value(n) = length else {
-        return 0;
-    };
-    let size = COLUMNS + n as usize;
-    if bytes.len() < size {
-        return 0;
+    let length = numeral::whole(&bytes[36..39]).ok()?;
+    let size = COLUMNS + length as usize;
+    if size <= bytes.len() && bytes[size - 1] == b'\n' {
+        Some(size)
+    } else {
+        None
     }
-    if bytes[size - 1] != b'\n' {
-        return 0;
-    }
-    size
 }
 
 // The tally with one case more.

@@ -1,8 +1,7 @@
 // How the cases of a file went.
 use crate::column::Column;
-use std::num::wrapping_add_u64;
 
-#[derive(Clone, Copy)]
+#[derive(Clone, Copy, Default)]
 pub struct Tally {
     pub decimals: u64,
     pub wholes: u64,
@@ -15,30 +14,19 @@ pub struct Tally {
 }
 
 impl Tally {
-    pub fn new() -> Self {
-        Tally {
-            decimals: 0,
-            wholes: 0,
-            seconds: 0,
-            both: 0,
-            neither: 0,
-            rust_alone: 0,
-            ours_alone: 0,
-            differing: 0,
-        }
-    }
-
     // One case more of a kind.
     pub fn counted(mut self, kind: u8) -> Self {
-        if kind == b'd' {
-            self.decimals = wrapping_add_u64(self.decimals, 1);
-            return self;
+        match kind {
+            b'd' => {
+                self.decimals = self.decimals.wrapping_add(1);
+            }
+            b'w' => {
+                self.wholes = self.wholes.wrapping_add(1);
+            }
+            _ => {
+                self.seconds = self.seconds.wrapping_add(1);
+            }
         }
-        if kind == b'w' {
-            self.wholes = wrapping_add_u64(self.wholes, 1);
-            return self;
-        }
-        self.seconds = wrapping_add_u64(self.seconds, 1);
         self
     }
 
@@ -56,33 +44,32 @@ impl Tally {
 
     fn read(mut self, rust_reads: bool) -> Self {
         if rust_reads {
-            self.both = wrapping_add_u64(self.both, 1);
-            return self;
+            self.both = self.both.wrapping_add(1);
+        } else {
+            self.ours_alone = self.ours_alone.wrapping_add(1);
         }
-        self.ours_alone = wrapping_add_u64(self.ours_alone, 1);
         self
     }
 
     fn refused(mut self, rust_reads: bool) -> Self {
         if rust_reads {
-            self.rust_alone = wrapping_add_u64(self.rust_alone, 1);
-            return self;
+            self.rust_alone = self.rust_alone.wrapping_add(1);
+        } else {
+            self.neither = self.neither.wrapping_add(1);
         }
-        self.neither = wrapping_add_u64(self.neither, 1);
         self
     }
 
     fn judged(mut self, agrees: bool) -> Self {
-        if agrees {
-            return self;
+        if !agrees {
+            self.differing = self.differing.wrapping_add(1);
         }
-        self.differing = wrapping_add_u64(self.differing, 1);
         self
     }
 
     pub fn print(self, rt: HostRuntime) {
-        let numbers = wrapping_add_u64(self.decimals, self.wholes);
-        print_count(rt, b"run ", wrapping_add_u64(numbers, self.seconds));
+        let numbers = self.decimals.wrapping_add(self.wholes);
+        print_count(rt, b"run ", numbers.wrapping_add(self.seconds));
         print_count(rt, b": decimals ", self.decimals);
         print_count(rt, b", whole numbers ", self.wholes);
         print_count(rt, b", seconds ", self.seconds);
