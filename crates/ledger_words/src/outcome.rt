@@ -2,7 +2,8 @@
 ghost use Rattle.std.specs.Prelude.{◌≤◌, length};
 
 use cases::answers;
-use ledger::answer::{Answer, Count, Figure, Stall};
+use cases::words::Word;
+use refusals::Refusal;
 
 #[derive(Clone, Copy)]
 pub struct Outcome {
@@ -10,9 +11,9 @@ pub struct Outcome {
     pub value: u64,
 }
 
-pub fn refused(number: u64) -> Outcome {
+pub fn refused(refusal: Refusal) -> Outcome {
     Outcome {
-        refusal: number,
+        refusal: refusal.number(),
         value: 0,
     }
 }
@@ -21,31 +22,18 @@ pub fn value(value: u64) -> Outcome {
     Outcome { refusal: 0, value }
 }
 
-pub fn of_answer(answer: Answer) -> Outcome {
+pub fn of_answer(answer: Result<(), Refusal>) -> Outcome {
     match answer {
-        Answer::Done => value(0),
-        Answer::Refused(number) => refused(number),
+        Ok(()) => value(0),
+        Err(refusal) => refused(refusal),
     }
 }
 
-pub fn of_count(count: Count) -> Outcome {
-    match count {
-        Count::Is(n) => value(n),
-        Count::Refused(number) => refused(number),
-    }
-}
-
-pub fn of_stall(stall: Stall) -> Outcome {
-    match stall {
-        Stall::Seconds(seconds) => value(float::bits(seconds)),
-        Stall::Refused(number) => refused(number),
-    }
-}
-
-pub fn of_figure(figure: Figure) -> Outcome {
-    match figure {
-        Figure::Mean(mean) => value(float::bits(mean)),
-        Figure::Refused(number) => refused(number),
+// Of a number or a float, its word.
+pub fn of_value<T: Word>(answer: Result<T, Refusal>) -> Outcome {
+    match answer {
+        Ok(found) => value(found.word()),
+        Err(refusal) => refused(refusal),
     }
 }
 
@@ -53,12 +41,5 @@ pub fn of_figure(figure: Figure) -> Outcome {
 pub fn put(ours: &mut [u64], at: usize, outcome: Outcome) -> usize
     ensures { result ≤ length ours.new }
 {
-    put_two(ours, at, outcome.refusal, outcome.value)
-}
-
-pub fn put_two(ours: &mut [u64], at: usize, first: u64, second: u64) -> usize
-    ensures { result ≤ length ours.new }
-{
-    let next = answers::put(ours, at, first);
-    answers::put(ours, next, second)
+    answers::put_list(ours, at, &[outcome.refusal, outcome.value])
 }

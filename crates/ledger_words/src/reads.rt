@@ -3,9 +3,10 @@
 ghost use Rattle.std.specs.Prelude.{◌≤◌, length};
 
 use crate::outcome;
-use crate::outcome::{of_count, of_figure, put_two};
+use crate::outcome::of_value;
 use cases::{answers, words};
-use ledger::answer::Found;
+use ledger::answer::Held;
+use refusals::Refusal;
 
 pub fn make(letter: u8, call: &[u64], storage: &[u64], ours: &mut [u64], at: usize) -> usize
     ensures { result ≤ length ours.new }
@@ -18,36 +19,30 @@ pub fn make(letter: u8, call: &[u64], storage: &[u64], ours: &mut [u64], at: usi
         return series(call, storage, ours, at);
     }
     if letter == b'g' {
-        return outcome::put(ours, at, of_figure(ledger::day_figure(storage)));
+        return outcome::put(ours, at, of_value(ledger::day_figure(storage)));
     }
     counts(storage, ours, at)
 }
 
 // The refusal, whether the worker is held, and its record.
-fn put_found(ours: &mut [u64], at: usize, found: Found) -> usize
+fn put_found(ours: &mut [u64], at: usize, found: Result<Option<Held>, Refusal>) -> usize
     ensures { result ≤ length ours.new }
 {
     match found {
-        Found::Held {
-            width,
-            rounds,
-            stall,
-        } => {
-            let next = put_two(ours, at, 0, 1);
-            let behind = put_two(ours, next, width, rounds);
-            answers::put(ours, behind, stall)
+        Ok(Some(held)) => {
+            answers::put_list(ours, at, &[0, 1, held.width, held.rounds, held.stall])
         }
-        Found::Unknown => put_two(ours, at, 0, 0),
-        Found::Refused(number) => put_two(ours, at, number, 0),
+        Ok(None) => outcome::put(ours, at, outcome::value(0)),
+        Err(refusal) => outcome::put(ours, at, outcome::refused(refusal)),
     }
 }
 
 fn counts(storage: &[u64], ours: &mut [u64], at: usize) -> usize
     ensures { result ≤ length ours.new }
 {
-    let second = outcome::put(ours, at, of_count(ledger::seconds_held(storage)));
-    let third = outcome::put(ours, second, of_count(ledger::workers_held(storage)));
-    outcome::put(ours, third, of_count(ledger::available(storage)))
+    let second = outcome::put(ours, at, of_value(ledger::seconds_held(storage)));
+    let third = outcome::put(ours, second, of_value(ledger::workers_held(storage)));
+    outcome::put(ours, third, of_value(ledger::available(storage)))
 }
 
 fn series(call: &[u64], storage: &[u64], ours: &mut [u64], at: usize) -> usize
@@ -81,7 +76,7 @@ fn series_in(
 ) -> usize
     ensures { result ≤ length ours.new }
 {
-    let read = of_count(ledger::series(storage, seconds, drafts, batches, committed));
+    let read = of_value(ledger::series(storage, seconds, drafts, batches, committed));
     let shown = read.value;
     let next = outcome::put(ours, at, read);
     put_fronts(shown, seconds, drafts, batches, committed, ours, next)
@@ -102,10 +97,10 @@ fn put_fronts(
     let d = front(shown, drafts.len());
     let b = front(shown, batches.len());
     let c = front(shown, committed.len());
-    let second = put_words(ours, at, &seconds[0..s]);
-    let third = answers::put_floats(ours, second, &drafts[0..d]);
-    let fourth = answers::put_floats(ours, third, &batches[0..b]);
-    answers::put_floats(ours, fourth, &committed[0..c])
+    let second = answers::put_list(ours, at, &seconds[0..s]);
+    let third = answers::put_list(ours, second, &drafts[0..d]);
+    let fourth = answers::put_list(ours, third, &batches[0..b]);
+    answers::put_list(ours, fourth, &committed[0..c])
 }
 
 // How many slots of a buffer are shown: as many as were written and one more, or all.
@@ -116,19 +111,4 @@ pub fn front(shown: u64, length: usize) -> usize
         return shown as usize + 1;
     }
     length
-}
-
-fn put_words(ours: &mut [u64], at: usize, list: &[u64]) -> usize
-    ensures { result ≤ length ours.new }
-{
-    if ours.len() < at {
-        return ours.len();
-    }
-    let mut next = at;
-    let mut k = 0usize;
-    while k < list.len() {
-        next = answers::put(ours, next, list[k]);
-        k += 1;
-    }
-    next
 }

@@ -3,7 +3,7 @@
 ghost use Rattle.std.specs.Prelude.{◌≤◌, length};
 
 use cases::{answers, words};
-use ledger_words::outcome::{of_answer, of_stall};
+use ledger_words::outcome::{of_answer, of_value};
 use ledger_words::{outcome, reads};
 
 pub fn make(letter: u8, call: &[u64], storage: &mut [u64], ours: &mut [u64], at: usize) -> usize
@@ -19,7 +19,7 @@ pub fn make(letter: u8, call: &[u64], storage: &mut [u64], ours: &mut [u64], at:
     }
     if letter == b'c' {
         let stall = planner::collect(storage, words::at(call, 1), words::at(call, 2));
-        return outcome::put(ours, at, of_stall(stall));
+        return outcome::put(ours, at, of_value(stall));
     }
     if letter == b'a' {
         return answers::put(ours, at, accepted(call));

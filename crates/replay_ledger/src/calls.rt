@@ -6,7 +6,7 @@ use crate::many;
 use cases::words;
 use ledger::answer::Decision;
 use ledger_rows::layout::Step;
-use ledger_words::outcome::{Outcome, of_answer, of_stall, refused};
+use ledger_words::outcome::{Outcome, of_answer, of_value};
 use std::num::wrapping_add_u64;
 
 // More than a case has of calls and of workers.
@@ -46,12 +46,9 @@ fn words_of(letter: u64) -> usize {
     match (letter % 256) as u8 {
         b'p' => 5,
         b'd' => 9,
-        b'c' => 2,
-        b'j' => 2,
-        b'k' => 2,
+        b'c' | b'j' | b'k' | b'x' => 2,
         b's' => 7,
         b'm' => 8,
-        b'x' => 2,
         _ => 1,
     }
 }
@@ -59,25 +56,15 @@ fn words_of(letter: u64) -> usize {
 // Makes a call.
 pub fn make(call: &[u64], names: &[u64], storage: &mut [u64]) -> Outcome {
     let letter = (words::at(call, 0) % 256) as u8;
-    if letter == b'p' {
-        return plan(call, Decision::Nothing, storage);
+    match letter {
+        b'p' => plan(call, Decision::Nothing, storage),
+        b'd' => plan(call, decision(call, names), storage),
+        b'w' => of_answer(ledger::withdraw(storage)),
+        b'f' => of_answer(ledger::fresh(storage)),
+        b'c' => collect(call, names, storage),
+        b's' | b'm' | b'x' => many::make(letter, call, names, storage),
+        _ => judge(letter, call, names, storage),
     }
-    if letter == b'd' {
-        return plan(call, decision(call, names), storage);
-    }
-    if letter == b'w' {
-        return of_answer(ledger::withdraw(storage));
-    }
-    if letter == b'f' {
-        return of_answer(ledger::fresh(storage));
-    }
-    if letter == b'c' {
-        return collect(call, names, storage);
-    }
-    if many::is_many(letter) {
-        return many::make(letter, call, names, storage);
-    }
-    judge(letter, call, names, storage)
 }
 
 fn plan(call: &[u64], decision: Decision, storage: &mut [u64]) -> Outcome {
@@ -111,15 +98,15 @@ fn decision(call: &[u64], names: &[u64]) -> Decision {
 
 fn collect(call: &[u64], names: &[u64], storage: &mut [u64]) -> Outcome {
     let name = name_at(names, words::least_at(call, 1, MOST));
-    of_stall(ledger::collect(storage, name.a, name.b))
+    of_value(ledger::collect(storage, name.a, name.b))
 }
 
 fn judge(letter: u8, call: &[u64], names: &[u64], storage: &[u64]) -> Outcome {
     if letter == b'j' {
-        return refused(ledger::judge_step(storage, words::at(call, 1)));
+        return of_answer(ledger::judge_step(storage, words::at(call, 1)));
     }
     let name = name_at(names, words::least_at(call, 1, MOST));
-    refused(ledger::judge_worker(storage, name.a, name.b))
+    of_answer(ledger::judge_worker(storage, name.a, name.b))
 }
 
 // Adds the calls of an answer's words to the number of those made and of those refused.
@@ -127,27 +114,16 @@ pub fn count(ours: &[u64], made: &mut [u64]) {
     if made.len() < 2 {
         return;
     }
-    let calls = ours.len() / 4;
-    made[0] = wrapping_add_u64(made[0], calls as u64);
-    made[1] = wrapping_add_u64(made[1], refusals(ours, calls));
+    let calls = (ours.len() / 4) as u64;
+    made[0] = wrapping_add_u64(made[0], calls);
+    made[1] = wrapping_add_u64(made[1], refusals(ours));
 }
 
 // How many of the calls are refused.
-fn refusals(ours: &[u64], calls: usize) -> u64 {
-    let mut refused = 0u64;
-    let mut rest = ours;
-    let mut k = 0usize;
-    while k < calls {
-        k += 1;
-        if 0 < words::at(rest, 0) {
-            refused = wrapping_add_u64(refused, 1);
-        }
-        if rest.len() < 4 {
-            return refused;
-        }
-        rest = &rest[4..];
-    }
-    refused
+fn refusals(ours: &[u64]) -> u64 {
+    ours.chunks_exact(4)
+        .filter(|call| 0 < words::at(call, 0))
+        .count() as u64
 }
 
 pub fn print(rt: HostRuntime, made: &[u64]) {

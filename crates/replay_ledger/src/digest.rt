@@ -2,9 +2,11 @@
 // behind it in each buffer, the day figure, and the record of each worker of the case. A reading is its refusal and its values, 0 where there
 // is none.
 use cases::sums::Sums;
-use ledger::answer::Found;
-use ledger_words::outcome::{Outcome, of_count, of_figure};
+use cases::words;
+use ledger::answer::Held;
+use ledger_words::outcome::{Outcome, of_value};
 use ledger_words::reads::front;
+use refusals::Refusal;
 
 pub fn of(
     storage: &[u64],
@@ -16,7 +18,7 @@ pub fn of(
 ) -> Sums {
     let held = held(storage);
     let all = and_series(held, storage, seconds, drafts, batches, committed);
-    let figure = of_figure(ledger::day_figure(storage));
+    let figure = of_value(ledger::day_figure(storage));
     and_workers(and(all, figure), storage, names)
 }
 
@@ -25,9 +27,9 @@ fn and(sums: Sums, read: Outcome) -> Sums {
 }
 
 fn held(storage: &[u64]) -> Sums {
-    let seconds = of_count(ledger::seconds_held(storage));
-    let workers = of_count(ledger::workers_held(storage));
-    let available = of_count(ledger::available(storage));
+    let seconds = of_value(ledger::seconds_held(storage));
+    let workers = of_value(ledger::workers_held(storage));
+    let available = of_value(ledger::available(storage));
     and(and(and(Sums::new(), seconds), workers), available)
 }
 
@@ -39,7 +41,7 @@ fn and_series(
     batches: &mut [f64],
     committed: &mut [f64],
 ) -> Sums {
-    let read = of_count(ledger::series(storage, seconds, drafts, batches, committed));
+    let read = of_value(ledger::series(storage, seconds, drafts, batches, committed));
     let count = read.value;
     and_fronts(and(sums, read), count, seconds, drafts, batches, committed)
 }
@@ -57,32 +59,26 @@ fn and_fronts(
     let d = front(count, drafts.len());
     let b = front(count, batches.len());
     let c = front(count, committed.len());
-    sums.and_words(&seconds[0..s])
-        .and_floats(&drafts[0..d])
-        .and_floats(&batches[0..b])
-        .and_floats(&committed[0..c])
+    sums.and_list(&seconds[0..s])
+        .and_list(&drafts[0..d])
+        .and_list(&batches[0..b])
+        .and_list(&committed[0..c])
 }
 
 fn and_workers(sums: Sums, storage: &[u64], names: &[u64]) -> Sums {
     let mut all = sums;
-    let mut rest = names;
-    while 2 <= rest.len() {
-        let next = and_worker(all, ledger::worker(storage, rest[0], rest[1]));
-        all = next;
-        rest = &rest[2..];
+    for name in names.chunks_exact(2) {
+        let found = ledger::worker(storage, words::at(name, 0), words::at(name, 1));
+        all = and_worker(all, found);
     }
     all
 }
 
 // The refusal, whether the worker is held, and its record.
-fn and_worker(sums: Sums, found: Found) -> Sums {
+fn and_worker(sums: Sums, found: Result<Option<Held>, Refusal>) -> Sums {
     match found {
-        Found::Held {
-            width,
-            rounds,
-            stall,
-        } => sums.and(0).and(1).and(width).and(rounds).and(stall),
-        Found::Unknown => sums.and(0).and(0).and(0).and(0).and(0),
-        Found::Refused(number) => sums.and(number).and(0).and(0).and(0).and(0),
+        Ok(Some(held)) => sums.and_list(&[0, 1, held.width, held.rounds, held.stall]),
+        Ok(None) => sums.and_list(&[0u64; 5]),
+        Err(refusal) => sums.and_list(&[refusal.number(), 0, 0, 0, 0]),
     }
 }

@@ -37,12 +37,12 @@ pub fn play(input: &[u64], ours: &mut [u64]) -> usize
 // The sums of what is behind the room, and of the whole where less was lent.
 fn unwritten(storage: &[u64], lent: u64) -> Sums {
     if lent < ROOM as u64 {
-        return Sums::new().and_words(storage);
+        return Sums::new().and_list(storage);
     }
     if storage.len() < ROOM {
         return Sums::new();
     }
-    Sums::new().and_words(&storage[ROOM..])
+    Sums::new().and_list(&storage[ROOM..])
 }
 
 // Lends as much of the storage and of the buffers as the case says.
@@ -87,10 +87,7 @@ fn play_whole(
 {
     let workers = words::least_at(input, 5, MOST);
     let behind = lists::behind(input, 5, 2 * workers);
-    if behind < 6 {
-        return 0;
-    }
-    if input.len() <= behind {
+    if behind < 6 || input.len() <= behind {
         return 0;
     }
     play_calls(
@@ -121,9 +118,7 @@ fn play_calls(
     let count = words::least_at(calls, 0, MOST);
     let mut from = 1usize;
     let mut at = 0usize;
-    let mut k = 0usize;
-    while k < count {
-        k += 1;
+    for _ in 0..count {
         at = turn(
             &calls[from..],
             names,
@@ -163,6 +158,5 @@ fn turn(
 fn put_sums(ours: &mut [u64], at: usize, sums: Sums) -> usize
     ensures { result ≤ length ours.new }
 {
-    let next = answers::put(ours, at, sums.first);
-    answers::put(ours, next, sums.second)
+    answers::put_list(ours, at, &[sums.first, sums.second])
 }
