@@ -14,11 +14,13 @@ use Rattle.numeral.specs.Moment.{second_of}
 use Rattle.ledger_rows.specs.Map.{is_held}
 use Rattle.ledger_rows.specs.Layout.{room}
 use Rattle.ledger_rows.proofs.Tests.{by_test, not_both}
-use Rattle.ledger.specs.declared.answer.Answer.{Answer}
+use Rattle.std.specs.Prelude.{Ok}
+use Rattle.refusals.specs.declared.Refusal.TheVariants.{NoWithdrawal}
+use Rattle.refusals.specs.Refusals.{Judgement, passed_if}
 use Rattle.ledger.specs.Calls.{emptied, withdrawn, found_of, worker_of}
-use Rattle.ledger_laws.specs.Model.{Worker, Switching, Plan, Change, Sums, counted, sums_at, record_of, back, Standing as Ledger, refusal}
+use Rattle.ledger_laws.specs.Model.{Worker, Switching, Plan, Change, Sums, counted, sums_at, record_of, back, Standing as Ledger}
 use Rattle.ledger_laws.specs.Encode.{past_from, encode}
-use Rattle.ledger_laws.proofs.Forth.{Reached, wide_enough, record_read, answer_of}
+use Rattle.ledger_laws.proofs.Forth.{Reached, wide_enough, record_read}
 use Rattle.ledger_laws.proofs.Back.{back_made}
 use Rattle.settings.specs.declared.Settings.{Settings}
 use Rattle.rounds.specs.declared.drawing.Drawn.{Drawn}
@@ -64,7 +66,7 @@ book_of (plan s a l ds cs ∷ ks) = (second_of a.end, (step_on s a l (record_of 
 book_of (collect a b ∷ ks) = no_entry ∷ book_of ks
 book_of (withdraw ∷ ks) = book_of ks
 
-known_held : (o : Option Switching) → is_known (found_of (past_from o)) ≡ is_held o
+known_held : (o : Option Switching) → is_known (Ok (found_of (past_from o))) ≡ is_held o
 unfolding found_of
 known_held none = refl
 known_held (some r) = refl
@@ -82,7 +84,7 @@ book_less (withdraw ∷ ks) h = absurd h
 
 -- each call keeps it
 pub one_booked : (k : Call) (S : Standing) (rest : List ℕ) → Holds S → books k (encode (ledger_of S) rest) (book_of S.changes) ≡ book_of (step k S).changes
-unfolding books step book_of refusal
+unfolding books step book_of
 one_booked (plan s a l ds cs) S rest h =
     let answers = plan_by_rules s a l (ledger_of S) rest (reached S h) ds cs in
     rw answers (by_test (is_plan (answer_on s a l (length ds) (length cs) (given S.changes)))
@@ -92,7 +94,7 @@ one_booked (collect a b) S rest h =
     rw (known_worker (ledger_of S) rest (reached S h) (a, b)) (by_test (is_held (record_of (a, b) (given S.changes))) (λ q. rw q) (λ q. rw q))
 one_booked withdraw S rest h =
     let r = reached S h in
-    let answer : (withdrawn (encode (ledger_of S) rest)).0 ≡ answer_of (refusal back (ledger_of S)) = ap (λ (x : Answer × List ℕ). x.0) (back_made (given S.changes) S.left rest r.sound r.few r.there) in
+    let answer : (withdrawn (encode (ledger_of S) rest)).0 ≡ passed_if (ltb 0 S.left) NoWithdrawal = ap (λ (x : Judgement × List ℕ). x.0) (back_made (given S.changes) S.left rest r.sound r.few r.there) in
     rw answer (by_test (ltb 0 S.left) (λ q. rw q (book_less S.changes h.lawful)) (λ q. rw q))
 
 pub all_booked : (ks : List Call) (S : Standing) (rest : List ℕ) → Holds S → booked ks (encode (ledger_of S) rest) (book_of S.changes) ≡ book_of (after ks S).changes

@@ -8,7 +8,9 @@ use native.Mathlib.Omega.{arith}
 use lib.Dec.{leb, ltb, eqb}
 use lib.Ieee.{Float}
 use lib.ListN.{length, get_or, take, drop}
-use Rattle.refusals.specs.Refusals.{first_of}
+use Rattle.std.specs.Prelude.{Ok, Err}
+use Rattle.refusals.specs.declared.Refusal.TheVariants.{ShortBuffer, WorkerRoom, SecondRoom, StepRoom}
+use Rattle.refusals.specs.Refusals.{Judgement, passed_if, number_in, first_of}
 use Rattle.numeral.specs.Moment.{second_of}
 use Rattle.acceptance.specs.declared.AcceptanceModel.{AcceptanceModel}
 use Rattle.acceptance.specs.declared.AcceptanceModel.TheVariants.{Constant, PerPosition, Trace}
@@ -22,10 +24,10 @@ use Rattle.float.specs.Range.{in_range}
 use Rattle.switch_settings.specs.Switch.{most_cost, is_unconstrained, switch_refusal}
 use Rattle.ledger_rows.specs.Layout.{seconds_most, workers_most, steps_most, second_at, room, steps_in}
 use Rattle.ledger_rows.proofs.Tests.{by_test, not_both}
-use Rattle.ledger_acts.specs.Acts.{place_refusal, step_refusal, worker_refusal}
+use Rattle.ledger_acts.specs.Acts.{place_allows, step_allows, worker_allows}
 use Rattle.ledger_seconds.specs.Seconds.{second_place}
 use Rattle.ledger_workers.specs.Workers.{worker_place, past_of}
-use Rattle.ledger.specs.Calls.{step_judged, worker_judged}
+use Rattle.ledger.specs.Calls.{step_allowed, worker_allowed, step_judged, worker_judged}
 use Rattle.settings.specs.declared.Policy.{Policy}
 use Rattle.settings.specs.declared.Policy.TheVariants.{Fixed, GoodputBudget, GatedBudget, GatedAggregate}
 use Rattle.settings.specs.declared.Settings.{Settings}
@@ -61,6 +63,11 @@ module _ (P : ℕ → Type 0) where
   either : (b : Bool) (x y : ℕ) → P x → P y → P (cond b x y)
   either true x y p q = p
   either false x y p q = q
+
+  -- the same of a judgement's number
+  either_judged : (b : Bool) (x y : Judgement) → P (number_in x) → P (number_in y) → P (number_in (cond b x y))
+  either_judged true x y p q = p
+  either_judged false x y p q = q
 
   first : (x y : ℕ) → P x → P y → P (first_of x y)
   first zero y p q = q
@@ -136,19 +143,19 @@ module _ (P : ℕ → Type 0) where
           first x (first_of y z) (either sized 0 11 n.none n.eleven) (first y z (either roomy 0 16 n.none n.sixteen) (either valued 0 15 n.none n.fifteen))
 
       step_numbers : (ws : List ℕ) (t : ℕ) → P (step_judged ws t)
-      unfolding step_judged step_refusal place_refusal
+      unfolding step_allowed step_allows place_allows
       step_numbers ws t =
           let few : Bool = ltb (get_or ws (second_at (second_place ws t).row + steps_in) 0) steps_most in
           let free : Bool = ltb (second_place ws t).rows seconds_most in
-          either (ltb (length ws) room) 16 (step_refusal ws t) n.sixteen
-          (either (second_place ws t).known (cond few 0 19) (cond free 0 18) (either few 0 19 n.none n.nineteen) (either free 0 18 n.none n.eighteen))
+          either_judged (ltb (length ws) room) (Err ShortBuffer) (step_allows ws t) n.sixteen
+          (either_judged (second_place ws t).known (passed_if few StepRoom) (passed_if free SecondRoom) (either_judged few (Ok tt) (Err StepRoom) n.none n.nineteen) (either_judged free (Ok tt) (Err SecondRoom) n.none n.eighteen))
 
       worker_numbers : (ws : List ℕ) → P 17 → P (worker_judged ws a.a a.b)
-      unfolding worker_judged worker_refusal
+      unfolding worker_allowed worker_allows
       worker_numbers ws p =
           let free : Bool = ltb (worker_place ws a.a a.b).rows workers_most in
-          either (ltb (length ws) room) 16 (worker_refusal ws a.a a.b) n.sixteen
-          (either (worker_place ws a.a a.b).known 0 (cond free 0 17) n.none (either free 0 17 n.none p))
+          either_judged (ltb (length ws) room) (Err ShortBuffer) (worker_allows ws a.a a.b) n.sixteen
+          (either_judged (worker_place ws a.a a.b).known (Ok tt) (passed_if free WorkerRoom) n.none (either_judged free (Ok tt) (Err WorkerRoom) n.none p))
 
       module _ (put : is_put s a l s.policy ≡ true → P 17) (ws ds cs : List ℕ) where
         put_numbers : P (cond (is_put s a l s.policy) (worker_judged ws a.a a.b) 0)

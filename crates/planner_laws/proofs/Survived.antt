@@ -7,7 +7,8 @@ use lib.Dec.{T}
 use lib.Ieee.{Float, le, nan}
 use lib.ListN.{length, get_or, drop, length-map, get_or-map, get_or-append}
 use Rattle.ledger_rows.specs.Layout.{room}
-use Rattle.ledger.specs.declared.answer.Count.{Count}
+use Rattle.std.specs.Prelude.{Result}
+use Rattle.refusals.specs.declared.Refusal.{Refusal}
 use Rattle.ledger.specs.Calls.{emptied, series_read}
 use Rattle.ledger_laws.specs.Model.{Sums, Change, sums_at}
 use Rattle.ledger_laws.specs.Encode.{seconds_given, no_second}
@@ -39,7 +40,7 @@ module _ (ks : List Call) (ws : List ℕ) (h : room ≤ length ws) (seconds : Li
   abbrev rows : List (ℕ × Sums)
   rows = seconds_given (standing ks)
 
-  abbrev handed : Count × List ℕ × List Float × List Float × List Float
+  abbrev handed : Result ℕ Refusal × List ℕ × List Float × List Float × List Float
   handed = series_read (run ks (emptied ws).1) seconds drafts batches committed
 
   pub series_ordered : length rows ≤ length seconds → length rows ≤ length drafts → length rows ≤ length batches → length rows ≤ length committed → (i : ℕ) → i < length rows

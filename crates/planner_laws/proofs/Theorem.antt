@@ -13,8 +13,9 @@ use lib.ListN.{length, drop}
 use Rattle.ledger_rows.specs.Map.{is_held}
 use Rattle.ledger_rows.specs.Layout.{room, changes_most}
 use Rattle.ledger_rows.proofs.Tests.{by_test}
-use Rattle.ledger.specs.declared.answer.Answer.{Answer}
-use Rattle.ledger.specs.declared.answer.Stall.{Stall}
+use Rattle.std.specs.Prelude.{Result, Float}
+use Rattle.refusals.specs.declared.Refusal.{Refusal}
+use Rattle.refusals.specs.Refusals.{Judgement}
 use Rattle.ledger.specs.Calls.{emptied}
 use Rattle.ledger_laws.specs.Model.{Change, record_of, step as ruled, collect as collecting, back, worker_rule, InDomain, after as ruled_after}
 use Rattle.ledger_laws.specs.Run.{run as ruled_run}
@@ -127,10 +128,10 @@ one_call (plan s a l ds cs) S rest h =
     ∙ by_test (is_plan (answer_on s a l (length ds) (length cs) (given S.changes)))
     (λ q. rw q (plan_stands s a l (ledger_of S) rest (reached S h) (plan_passes s a l (length ds) (length cs) (given S.changes) q)))
     (λ q. rw q)
-one_call (collect a b) S rest h = ap (λ (x : Stall × List ℕ). x.1) (collect_made (a, b) (ledger_of S) rest (reached S h)) ∙ as_collected a b S rest
+one_call (collect a b) S rest h = ap (λ (x : Result Float Refusal × List ℕ). x.1) (collect_made (a, b) (ledger_of S) rest (reached S h)) ∙ as_collected a b S rest
 one_call withdraw S rest h =
     let r = reached S h in
-    ap (λ (x : Answer × List ℕ). x.1) (back_made (given S.changes) S.left rest r.sound r.few r.there) ∙ as_withdrawn S rest h.lawful
+    ap (λ (x : Judgement × List ℕ). x.1) (back_made (given S.changes) S.left rest r.sound r.few r.there) ∙ as_withdrawn S rest h.lawful
 
 -- after any calls
 pub afresh : (ks : List Call) (S : Standing) (rest : List ℕ) → Holds S → (run ks (encode (ledger_of S) rest) ≡ encode (ledger_of (after ks S)) rest) × Holds (after ks S)

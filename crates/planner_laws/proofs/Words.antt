@@ -18,7 +18,7 @@ use Rattle.goodput.specs.declared.curve.Source.TheVariants.{Roofline, Table}
 use Rattle.switch_settings.specs.Switch.{is_unconstrained}
 use Rattle.ledger_rows.specs.Layout.{room, changes_most}
 use Rattle.ledger_rows.proofs.Tests.{by_test}
-use Rattle.ledger.specs.declared.answer.Answer.{Answer}
+use Rattle.refusals.specs.Refusals.{Judgement}
 use Rattle.ledger.specs.declared.answer.Decision.TheVariants.{Nothing, Put}
 use Rattle.ledger.specs.Calls.{recorded}
 use Rattle.ledger_laws.specs.Model.{Worker, Switching, Change, planned as plain, decided, record_of, step_rule, worker_rule, Standing as Ledger, step as ruled, refusal, plan as plainly, decide}
@@ -168,5 +168,5 @@ module _ (s : Settings) (a : Ask) (l : Lent) (S : Ledger) (rest : List ℕ) (r :
   unfolding change_on
   plan_stands h = rw (change_by s.policy) (by_test (is_put s a l s.policy)
       (λ q. let worker : worker_rule w S.changes ≡ 0 = rw q at h.worker_passes in
-      rw q (rw record_in_lem at (ap (λ (x : Answer × List ℕ). x.1) (decide_made (step_on s a l o) w (new_record s a l) S rest (step_small s a l S.changes h) r)) ∙ decide_steps worker h.step_passes))
-      (λ q. rw q (ap (λ (x : Answer × List ℕ). x.1) (plan_made (step_on s a l o) S rest (step_small s a l S.changes h) r) ∙ plan_steps h.step_passes)))
+      rw q (rw record_in_lem at (ap (λ (x : Judgement × List ℕ). x.1) (decide_made (step_on s a l o) w (new_record s a l) S rest (step_small s a l S.changes h) r)) ∙ decide_steps worker h.step_passes))
+      (λ q. rw q (ap (λ (x : Judgement × List ℕ). x.1) (plan_made (step_on s a l o) S rest (step_small s a l S.changes h) r) ∙ plan_steps h.step_passes)))

@@ -1,11 +1,10 @@
 -- What a host books beside the planner, from nothing but what the calls answer and hand back: for each change that stands, its second and what its verifies
 -- accept. Assumes nothing.
-use Rattle.std.specs.Prelude.{Bool, true, false, cond, List, [], ◌∷◌, ℕ, ◌+◌, eqb, take, drop}
+use Rattle.std.specs.Prelude.{Bool, true, false, cond, List, [], ◌∷◌, ℕ, ◌+◌, eqb, take, drop, Result, Ok, Err, Option, Some, None}
 use Rattle.numeral.specs.Moment.{second_of}
-use Rattle.ledger.specs.declared.answer.Answer.{Answer}
-use Rattle.ledger.specs.declared.answer.Answer.TheVariants.{Done, Refused}
-use Rattle.ledger.specs.declared.answer.Found.{Found}
-use Rattle.ledger.specs.declared.answer.Found.TheVariants.{Held, Unknown, Refused as NotFound}
+use Rattle.refusals.specs.declared.Refusal.{Refusal}
+use Rattle.refusals.specs.Refusals.{Judgement}
+use Rattle.ledger.specs.declared.answer.Held.{Held}
 use Rattle.ledger.specs.Calls.{withdrawn, worker_of}
 use Rattle.verifies.specs.Accepted.{committed_of}
 use Rattle.planner.specs.Plan.{planned}
@@ -24,14 +23,14 @@ no_entry = (0, 0)
 abbrev pub host_counts : ℕ → List ℕ → List ℕ → ℕ
 host_counts n drafts commits = committed_of (take n drafts) (take n commits)
 
-abbrev pub is_known : Found → Bool
-is_known (Held width rounds stall) = true
-is_known Unknown = false
-is_known (NotFound number) = false
+abbrev pub is_known : Result (Option Held) Refusal → Bool
+is_known (Ok (Some held)) = true
+is_known (Ok None) = false
+is_known (Err refusal) = false
 
-abbrev pub is_done : Answer → Bool
-is_done Done = true
-is_done (Refused number) = false
+abbrev pub is_done : Judgement → Bool
+is_done (Ok done) = true
+is_done (Err refusal) = false
 
 -- an accepted plan is booked, and a collection from a worker that is known, as the planner answers before it; a withdrawal that is done takes the newest entry
 unfoldable pub books : Call → List ℕ → List Entry → List Entry
