@@ -1,16 +1,12 @@
 -- The total cost of a depth, of lent inputs, and what is refused of them. Assumes nothing.
-use Rattle.std.specs.Prelude.{ℕ, zero, suc, List, Float}
+use Rattle.std.specs.Prelude.{ℕ, List, Float, Result, Ok}
+use Rattle.refusals.specs.declared.Refusal.{Refusal}
+use Rattle.refusals.specs.Refusals.{and_then}
 use Rattle.speculative.specs.Drafter.{loaded_at}
 use Rattle.speculative.specs.declared.drafter.Rates.{Rates}
 use Rattle.speculative.specs.declared.drafter.DrafterCost.{DrafterCost}
 use Rattle.depths.specs.Pricing.{total_cost}
-use Rattle.goodput_judges.specs.Refusals.{cost_refusal}
-use Rattle.goodput.specs.declared.pricing.Cost.{Cost}
-use Rattle.goodput.specs.declared.pricing.Cost.TheVariants.{Seconds, Refused}
+use Rattle.goodput_judges.specs.Refusals.{cost_judged}
 
-abbrev pub cost_unless : ℕ → Float → Cost
-cost_unless zero x = Seconds x
-cost_unless (suc refusal) x = Refused (suc refusal)
-
-unfoldable pub cost_of : DrafterCost → ℕ → ℕ → Rates → Float → List Float → Cost
-cost_of kind g n rates verify loaded = cost_unless (cost_refusal kind g n rates verify loaded) (total_cost kind n rates (loaded_at kind loaded n) g verify)
+unfoldable pub cost_of : DrafterCost → ℕ → ℕ → Rates → Float → List Float → Result Float Refusal
+cost_of kind g n rates verify loaded = and_then (cost_judged kind g n rates verify loaded) (Ok (total_cost kind n rates (loaded_at kind loaded n) g verify))

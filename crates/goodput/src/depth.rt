@@ -2,18 +2,13 @@
 ghost use Rattle.std.specs.Prelude.{◌≡◌};
 ghost use Rattle.goodput.specs.Depth.{depth_answer, aggregate_answer};
 
+use refusals::Refusal;
 use speculative::drafter::{DrafterCost, Rates};
-
-// The best depth, or the number of the refusal.
-#[derive(Clone, Copy)]
-pub enum Depth {
-    Best(u32),
-    Refused(u64),
-}
 
 // The smallest depth of finite total cost whose goodput no other such depth exceeds, of the depths 0 to gamma; 0 where no
 // cost is finite. 12, 11, then 16 where the expected values, the curve or, for an autoregressive head, the loaded experts are
 // too short, then 15.
+#[tactic(auto, using(goodput_judges::proofs::Passed::depth_passed), unfolding(crate::specs::Depth::depth_answer))]
 pub fn best_depth(
     expected: &[f64],
     curve: &[f64],
@@ -22,16 +17,13 @@ pub fn best_depth(
     drafter: DrafterCost,
     rates: Rates,
     loaded: &[f64],
-) -> Depth
+) -> Result<u32, Refusal>
     ensures { result ≡ depth_answer expected.now curve.now gamma n drafter rates loaded.now }
 {
-    let refusal = goodput_judges::depth_refusal(expected, curve, gamma, n, drafter, rates, loaded);
-    if 0 < refusal {
-        return Depth::Refused(refusal);
-    }
+    goodput_judges::judge_depth(expected, curve, gamma, n, drafter, rates, loaded)?;
     let count = gamma as usize + 1;
     let experts = speculative::inner::loaded_at(drafter, loaded, n as usize);
-    Depth::Best(depths::inner::depth_over(
+    Ok(depths::inner::depth_over(
         &expected[..count],
         &curve[..count],
         n,
@@ -44,6 +36,7 @@ pub fn best_depth(
 // The best depth of a batch: that of the expected acceptance of its chains, which stand one after the other, 64 slots each,
 // each with its length. 12, 11, then 16 where the chains, the curve or, for an autoregressive head, the loaded experts are
 // too short, then 15.
+#[tactic(auto, using(goodput_judges::proofs::Passed::aggregate_passed), unfolding(crate::specs::Depth::aggregate_answer))]
 pub fn aggregate_depth(
     chains: &[f64],
     lengths: &[u32],
@@ -52,23 +45,11 @@ pub fn aggregate_depth(
     drafter: DrafterCost,
     rates: Rates,
     loaded: &[f64],
-) -> Depth
+) -> Result<u32, Refusal>
     ensures { result ≡ aggregate_answer chains.now lengths.now curve.now gamma drafter rates loaded.now }
 {
-    let refusal = goodput_judges::aggregate_refusal(
-        chains, lengths, curve, gamma, drafter, rates, loaded,
-    );
-    if 0 < refusal {
-        return Depth::Refused(refusal);
-    }
+    goodput_judges::judge_aggregate(chains, lengths, curve, gamma, drafter, rates, loaded)?;
     let count = gamma as usize + 1;
     let experts = speculative::inner::loaded_at(drafter, loaded, lengths.len());
-    Depth::Best(depths::inner::gate_depth(
-        chains,
-        lengths,
-        &curve[..count],
-        drafter,
-        rates,
-        experts,
-    ))
+    Ok(depths::inner::gate_depth(chains, lengths, &curve[..count], drafter, rates, experts))
 }
