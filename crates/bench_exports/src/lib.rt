@@ -8,24 +8,18 @@ ghost use Rattle.cost_lookup.specs.Entry.{price_curve_at};
 ghost use Rattle.measured.specs.Fill.{table_read};
 ghost use Rattle.bench_exports.specs.Figures.{value_of, rounds_of, rows_of, price_at};
 
-use bank_judge::Answer;
-use decimals::Decimal;
-
 // The value; 0.0 where the decimal is refused.
 #[unsafe(no_mangle)]
+#[tactic(auto, unfolding(crate::specs::Figures::value_of))]
 pub extern "C" fn bench_decimal(text: &[u8]) -> f64
     ensures { result ≡ value_of (decimal_of text.now) }
 {
-    let read = numeral::decimal(text);
-    match read {
-        Decimal::Value(x) => x,
-        Decimal::Malformed => 0.0,
-        Decimal::TooLong => 0.0,
-    }
+    numeral::decimal(text).unwrap_or(0.0)
 }
 
 // How many rounds were read; 0 where the text is refused.
 #[unsafe(no_mangle)]
+#[tactic(auto, unfolding(crate::specs::Figures::rounds_of))]
 pub extern "C" fn bench_bank(
     text: &[u8],
     commits: &mut [u32],
@@ -37,15 +31,15 @@ pub extern "C" fn bench_bank(
     ensures signals_after { signals.new ≡ (bank_read text.now commits.old signals.old curve.old).signals }
     ensures curve_after { curve.new ≡ (bank_read text.now commits.old signals.old curve.old).curve }
 {
-    let answer = bank::read(text, commits, signals, curve);
-    match answer {
-        Answer::Bank { depth: _, rounds } => rounds as u64,
-        Answer::Refused { number: _, row: _ } => 0,
+    match bank::read(text, commits, signals, curve) {
+        Ok(size) => size.rounds as u64,
+        Err(_) => 0,
     }
 }
 
 // How many rows were kept; 0 where the text is refused.
 #[unsafe(no_mangle)]
+#[tactic(auto, unfolding(crate::specs::Figures::rows_of))]
 pub extern "C" fn bench_table(
     text: &[u8],
     depths: &mut [u32],
@@ -57,15 +51,15 @@ pub extern "C" fn bench_table(
     ensures batches_after { batches.new ≡ (table_read text.now depths.old batches.old seconds.old).batches }
     ensures seconds_after { seconds.new ≡ (table_read text.now depths.old batches.old seconds.old).seconds }
 {
-    let answer = measured::read(text, depths, batches, seconds);
-    match answer {
-        measured::Answer::Table { rows } => rows as u64,
-        measured::Answer::Refused { number: _, row: _ } => 0,
+    match measured::read(text, depths, batches, seconds) {
+        Ok(rows) => rows as u64,
+        Err(_) => 0,
     }
 }
 
 // The price of a depth, on the whole curve of a batch; 0.0 where the table is refused or there is no such depth.
 #[unsafe(no_mangle)]
+#[tactic(auto, unfolding(crate::specs::Figures::price_at))]
 pub extern "C" fn bench_price(
     depths: &[u32],
     batches: &[u32],
@@ -75,8 +69,10 @@ pub extern "C" fn bench_price(
     kv_delta: f64,
     depth: usize,
 ) -> f64
-    ensures { result ≡ price_at depth (price_curve_at rows depths.now batches.now seconds.now batch kv_delta).prices }
+    ensures { result ≡ price_at depth (price_curve_at rows depths.now batches.now seconds.now batch kv_delta) }
 {
-    let curve = cost_lookup::price_curve(depths, batches, seconds, rows, batch, kv_delta);
-    if depth < 65 { curve.prices[depth] } else { 0.0 }
+    match cost_lookup::price_curve(depths, batches, seconds, rows, batch, kv_delta) {
+        Ok(prices) => { if depth < 65 { prices[depth] } else { 0.0 } }
+        Err(_) => 0.0,
+    }
 }
