@@ -1,6 +1,5 @@
 // Two sums over words: of the words, and of the sums up to each word, which tells their places apart.
 use crate::words::Word;
-use std::num::wrapping_add_u64;
 
 #[derive(Clone, Copy)]
 pub struct Sums {
@@ -17,8 +16,8 @@ impl Sums {
     }
 
     pub fn and(self, word: u64) -> Self {
-        let first = wrapping_add_u64(self.first, word);
-        let second = wrapping_add_u64(self.second, first);
+        let first = self.first.wrapping_add(word);
+        let second = self.second.wrapping_add(first);
         Sums { first, second }
     }
 

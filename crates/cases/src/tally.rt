@@ -2,7 +2,6 @@
 ghost use Rattle.std.specs.Prelude.{◌≤◌};
 
 use crate::words::at;
-use std::num::wrapping_add_u64;
 
 // As many counts as there are: 26 letters, three each.
 pub const COUNTS: usize = 78;
@@ -33,7 +32,7 @@ fn add_one(counts: &mut [u64], place: usize, counted: bool) {
 
 fn add(counts: &mut [u64], place: usize) {
     if place < counts.len() {
-        counts[place] = wrapping_add_u64(counts[place], 1);
+        counts[place] = counts[place].wrapping_add(1);
     }
 }
 
@@ -62,7 +61,7 @@ fn sum(counts: &[u64], place: usize) -> u64 {
     let mut sum = 0u64;
     for (at, count) in counts.iter().enumerate() {
         if at % 3 == place {
-            sum = wrapping_add_u64(sum, *count);
+            sum = sum.wrapping_add(*count);
         }
     }
     sum

@@ -57,7 +57,7 @@ pub fn of_text(text: &[u8], out: &mut [u64]) -> usize
 }
 
 // The number that hexadecimal digits spell, of which the last sixteen count.
-fn value(digits: &[u8]) -> u64 {
+pub fn value(digits: &[u8]) -> u64 {
     let mut value = 0u64;
     for digit in digits {
         value = value % 0x1000_0000_0000_0000 * 16 + hex_digit(*digit);

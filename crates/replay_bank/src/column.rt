@@ -1,7 +1,8 @@
 // An answer as a column of a case: sixteen hexadecimal digits, or dashes and the refusal's number, for a bank with its row.
-use acceptance::{Expected, Sample};
-use bank_judge::Answer;
+use acceptance::Sample;
+use bank_judge::BankSize;
 use cases::sums::Sums;
+use refusals::{Refusal, RefusedRow};
 
 #[derive(Clone, Copy)]
 pub struct Column {
@@ -38,24 +39,24 @@ pub fn are_sums(sums: Sums, first: &[u8], second: &[u8]) -> bool {
     ours.is(first) && all.is(second)
 }
 
-pub fn of_bank(answer: Answer) -> Column {
+pub fn of_bank(answer: Result<BankSize, RefusedRow>) -> Column {
     match answer {
-        Answer::Bank { depth, rounds } => of_value(joined(depth, rounds)),
-        Answer::Refused { number, row } => of_refusal_at(number, row),
+        Ok(size) => of_value(joined(size.depth, size.rounds)),
+        Err(refused) => of_refusal_at(refused.refusal, refused.row),
     }
 }
 
-pub fn of_expected(answer: Expected) -> Column {
+pub fn of_expected(answer: Result<f64, Refusal>) -> Column {
     match answer {
-        Expected::Value(value) => of_value(float::bits(value)),
-        Expected::Refused(number) => of_refusal(number),
+        Ok(value) => of_value(float::bits(value)),
+        Err(refusal) => of_refusal(refusal),
     }
 }
 
-pub fn of_sample(answer: Sample) -> Column {
+pub fn of_sample(answer: Result<Sample, Refusal>) -> Column {
     match answer {
-        Sample::Accepted { commits, used } => of_value(joined(commits, (used % 4294967296) as u32)),
-        Sample::Refused(number) => of_refusal(number),
+        Ok(sample) => of_value(joined(sample.commits, (sample.used % 4294967296) as u32)),
+        Err(refusal) => of_refusal(refusal),
     }
 }
 
@@ -73,7 +74,8 @@ fn joined(high: u32, low: u32) -> u64 {
     high as u64 * 4294967296 + low as u64
 }
 
-fn of_refusal(number: u64) -> Column {
+fn of_refusal(refusal: Refusal) -> Column {
+    let number = refusal.number();
     let mut bytes = [b'-'; 16];
     bytes[14] = digit(number / 10);
     bytes[15] = digit(number);
@@ -83,14 +85,13 @@ fn of_refusal(number: u64) -> Column {
     }
 }
 
-fn of_refusal_at(number: u64, row: u64) -> Column {
+fn of_refusal_at(refusal: Refusal, row: u64) -> Column {
+    let number = refusal.number();
     let mut bytes = [b'-'; 16];
     bytes[6] = digit(number / 10);
     bytes[7] = digit(number);
     let mut left = row;
-    let mut at = 16usize;
-    while 8 < at {
-        at -= 1;
+    for at in (8..16usize).rev() {
         bytes[at] = digit(left);
         left /= 10;
     }

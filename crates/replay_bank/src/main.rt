@@ -54,18 +54,15 @@ fn replay_file(rt: HostRuntime, name: &[u8]) {
 fn replay(rt: HostRuntime, file: &mut File, room: &mut [u8]) {
     let mut end = case_files::refill(file, room, 0, 0);
     let mut at = case_files::print_line(rt, &room[..end]);
-    let mut tally = Tally::new();
-    let mut fillings = 0u64;
-    while fillings < FILLINGS {
-        fillings += 1;
+    let mut tally = Tally::default();
+    for _ in 0..FILLINGS {
         end = case_files::refill(file, room, at, end);
         if end == 0 {
             tally.print(rt);
             return;
         }
         let run = cases_in(tally, &room[..end]);
-        let next = run.tally;
-        tally = next;
+        tally = run.tally;
         at = run.end;
         if at == 0 {
             let _ = rt.write_all(b"what follows is no case\n");
@@ -78,6 +75,7 @@ fn replay(rt: HostRuntime, file: &mut File, room: &mut [u8]) {
 fn cases_in(tally: Tally, bytes: &[u8]) -> Run {
     let mut so_far = tally;
     let mut at = 0usize;
+    // no index is counted: each turn goes on behind a case
     while at < bytes.len() {
         let size = case_size(&bytes[at..]);
         if size == 0 {
@@ -103,16 +101,12 @@ fn case_size(bytes: &[u8]) -> usize
     if bytes.len() < BANK_COLUMNS {
         return 0;
     }
-    if bytes[0] == b'b' {
-        return size_with(bytes, &bytes[88..95], BANK_COLUMNS);
+    match bytes[0] {
+        b'b' => size_with(bytes, &bytes[88..95], BANK_COLUMNS),
+        b'm' => size_with(bytes, &bytes[70..75], MODEL_COLUMNS),
+        b'a' => size_with(bytes, &bytes[36..41], VALUE_COLUMNS),
+        _ => 0,
     }
-    if bytes[0] == b'm' {
-        return size_with(bytes, &bytes[70..75], MODEL_COLUMNS);
-    }
-    if bytes[0] == b'a' {
-        return size_with(bytes, &bytes[36..41], VALUE_COLUMNS);
-    }
-    0
 }
 
 // The same, where the digits say how much the case has besides its columns.
@@ -120,18 +114,15 @@ fn size_with(bytes: &[u8], digits: &[u8], columns: usize) -> usize
     requires { (1 ≤ columns) × (columns ≤ 97) }
     ensures { result ≤ length bytes.now }
 {
-    let length = numeral::whole(digits);
-    let numeral::answer::Whole::Value(n) = length else {
+    let Ok(n) = numeral::whole(digits) else {
         return 0;
     };
     let size = columns + n as usize;
-    if bytes.len() < size {
-        return 0;
+    if size <= bytes.len() && bytes[size - 1] == b'\n' {
+        size
+    } else {
+        0
     }
-    if bytes[size - 1] != b'\n' {
-        return 0;
-    }
-    size
 }
 
 // The tally with one case more.
@@ -139,13 +130,11 @@ fn case_in(tally: Tally, case: &[u8]) -> Tally {
     if case.len() < BANK_COLUMNS {
         return tally;
     }
-    if case[0] == b'b' {
-        return bank_in(tally, case);
+    match case[0] {
+        b'b' => bank_in(tally, case),
+        b'a' => value_in(tally, case),
+        _ => model_in(tally, case),
     }
-    if case[0] == b'a' {
-        return value_in(tally, case);
-    }
-    model_in(tally, case)
 }
 
 // The columns are ANSWER, SUM1, SUM2 and RUST.

@@ -37,8 +37,7 @@ pub fn value(text: &[u8]) -> Column {
 fn count_at(text: &[u8], at: usize) -> usize
     ensures { result ≤ 128 }
 {
-    let count = words::at(text, at);
-    if count <= 128 { count as usize } else { 128 }
+    words::at(text, at).min(128) as usize
 }
 
 // With so many of the positions and of the draws.
@@ -71,11 +70,9 @@ fn answers(model: AcceptanceModel, gamma: u32, positions: &[f64], draws: &[f64])
 }
 
 fn model_of(kind: u64, alpha: u64) -> AcceptanceModel {
-    if kind == 0 {
-        return AcceptanceModel::Constant(float::of_bits(alpha));
+    match kind {
+        0 => AcceptanceModel::Constant(float::of_bits(alpha)),
+        1 => AcceptanceModel::PerPosition,
+        _ => AcceptanceModel::Trace,
     }
-    if kind == 1 {
-        return AcceptanceModel::PerPosition;
-    }
-    AcceptanceModel::Trace
 }

@@ -1,8 +1,6 @@
 // How the cases of a file went.
-use std::num::wrapping_add_u64;
-
 // Who reads a bank, and who refuses it.
-#[derive(Clone, Copy)]
+#[derive(Clone, Copy, Default)]
 pub struct Split {
     pub both: u64,
     pub neither: u64,
@@ -11,13 +9,13 @@ pub struct Split {
 }
 
 // How many answers are values, and how many refusals. The Rust refuses nothing here: it is asked where the rules give a value.
-#[derive(Clone, Copy)]
+#[derive(Clone, Copy, Default)]
 pub struct Values {
     pub given: u64,
     pub refused: u64,
 }
 
-#[derive(Clone, Copy)]
+#[derive(Clone, Copy, Default)]
 pub struct Tally {
     pub banks: u64,
     pub models: u64,
@@ -29,38 +27,15 @@ pub struct Tally {
 }
 
 impl Split {
-    fn new() -> Self {
-        Split {
-            both: 0,
-            neither: 0,
-            rust_alone: 0,
-            ours_alone: 0,
-        }
-    }
-
     // One bank more.
-    fn counted(self, ours: bool, rust: bool) -> Self {
-        if ours {
-            return self.read(rust);
-        }
-        self.refused(rust)
-    }
-
-    fn read(mut self, rust: bool) -> Self {
-        if rust {
-            self.both = wrapping_add_u64(self.both, 1);
-            return self;
-        }
-        self.ours_alone = wrapping_add_u64(self.ours_alone, 1);
-        self
-    }
-
-    fn refused(mut self, rust: bool) -> Self {
-        if rust {
-            self.rust_alone = wrapping_add_u64(self.rust_alone, 1);
-            return self;
-        }
-        self.neither = wrapping_add_u64(self.neither, 1);
+    fn counted(mut self, ours: bool, rust: bool) -> Self {
+        let who = match (ours, rust) {
+            (true, true) => &mut self.both,
+            (true, false) => &mut self.ours_alone,
+            (false, true) => &mut self.rust_alone,
+            (false, false) => &mut self.neither,
+        };
+        *who = who.wrapping_add(1);
         self
     }
 
@@ -73,20 +48,13 @@ impl Split {
 }
 
 impl Values {
-    fn new() -> Self {
-        Values {
-            given: 0,
-            refused: 0,
-        }
-    }
-
     // One answer more.
     fn counted(mut self, is_value: bool) -> Self {
         if is_value {
-            self.given = wrapping_add_u64(self.given, 1);
-            return self;
+            self.given = self.given.wrapping_add(1);
+        } else {
+            self.refused = self.refused.wrapping_add(1);
         }
-        self.refused = wrapping_add_u64(self.refused, 1);
         self
     }
 
@@ -97,57 +65,38 @@ impl Values {
 }
 
 impl Tally {
-    pub fn new() -> Self {
-        Tally {
-            banks: 0,
-            models: 0,
-            values: 0,
-            read: Split::new(),
-            expected: Values::new(),
-            sampled: Values::new(),
-            differing: 0,
-        }
-    }
-
     // One bank more, and who reads it.
     pub fn bank(mut self, ours: bool, rust: bool) -> Self {
-        self.banks = wrapping_add_u64(self.banks, 1);
-        let read = self.read;
-        let next = read.counted(ours, rust);
-        self.read = next;
+        self.banks = self.banks.wrapping_add(1);
+        self.read = self.read.counted(ours, rust);
         self
     }
 
     // One model more, and whether we give its expected value and its sample.
     pub fn model(mut self, expected: bool, sampled: bool) -> Self {
-        self.models = wrapping_add_u64(self.models, 1);
-        let values = self.expected;
-        let next = values.counted(expected);
-        self.expected = next;
-        let samples = self.sampled;
-        let last = samples.counted(sampled);
-        self.sampled = last;
+        self.models = self.models.wrapping_add(1);
+        self.expected = self.expected.counted(expected);
+        self.sampled = self.sampled.counted(sampled);
         self
     }
 
     // One value of a position more.
     pub fn value(mut self) -> Self {
-        self.values = wrapping_add_u64(self.values, 1);
+        self.values = self.values.wrapping_add(1);
         self
     }
 
     // Whether the case is as the rules and the Rust have it.
     pub fn judged(mut self, agrees: bool) -> Self {
-        if agrees {
-            return self;
+        if !agrees {
+            self.differing = self.differing.wrapping_add(1);
         }
-        self.differing = wrapping_add_u64(self.differing, 1);
         self
     }
 
     pub fn print(self, rt: HostRuntime) {
-        let asked = wrapping_add_u64(self.models, self.values);
-        print_count(rt, b"run ", wrapping_add_u64(self.banks, asked));
+        let asked = self.models.wrapping_add(self.values);
+        print_count(rt, b"run ", self.banks.wrapping_add(asked));
         print_count(rt, b": banks ", self.banks);
         print_count(rt, b", models ", self.models);
         print_count(rt, b", values ", self.values);

@@ -32,12 +32,10 @@ pub fn run(text: &[u8], commits: &[u8], signals: &[u8], curve: &[u8]) -> Outcome
 fn slots(digits: &[u8], most: usize) -> usize
     ensures { result ≤ most }
 {
-    let spelled = numeral::whole(digits);
-    let numeral::answer::Whole::Value(n) = spelled else {
+    let Ok(n) = numeral::whole(digits) else {
         return 0;
     };
-    let slots = n as usize;
-    if slots <= most { slots } else { most }
+    (n as usize).min(most)
 }
 
 // Lends so many slots of each buffer.
@@ -65,9 +63,9 @@ fn run_within(
 fn run_in(text: &[u8], commits: &mut [u32], signals: &mut [f64], curve: &mut [f64]) -> Outcome {
     let answer = bank::read(text, commits, signals, curve);
     let sums = Sums::new()
-        .and_whole_numbers(commits)
-        .and_floats(signals)
-        .and_floats(curve);
+        .and_list(commits)
+        .and_list(signals)
+        .and_list(curve);
     Outcome {
         answer: column::of_bank(answer),
         sums,
