@@ -18,12 +18,7 @@ pub fn print(rt: HostRuntime, counts: &[u64]) {
 }
 
 pub fn is_decision(kind: u8) -> bool {
-    match kind {
-        b'c' => true,
-        b'l' => true,
-        b'k' => true,
-        _ => false,
-    }
+    matches!(kind, b'c' | b'l' | b'k')
 }
 
 // The kinds that lend a list.
@@ -145,10 +140,7 @@ pub fn setting(kind: u8, input: &[u64], ours: &mut [u64]) -> usize
 fn put_unconstrained(ours: &mut [u64], constraints: SwitchConstraints) -> usize
     ensures { result ≤ length ours.new }
 {
-    if constraints.is_unconstrained() {
-        return answers::two(ours, 0, 1);
-    }
-    answers::two(ours, 0, 0)
+    answers::two(ours, 0, u64::from(constraints.is_unconstrained()))
 }
 
 // The kinds that lend a record alone.

@@ -4,8 +4,8 @@ ghost use Rattle.std.specs.Prelude.{◌≤◌, length};
 
 use crate::kinds;
 use cases::{answers, lists, words};
+use refusals::Refusal;
 use speculative::drafter;
-use speculative::drafter::DraftTime;
 
 pub fn print(rt: HostRuntime, counts: &[u64]) {
     kinds::print(
@@ -16,21 +16,11 @@ pub fn print(rt: HostRuntime, counts: &[u64]) {
 }
 
 pub fn is_cost(kind: u8) -> bool {
-    match kind {
-        b'd' => true,
-        b'q' => true,
-        b'g' => true,
-        _ => false,
-    }
+    matches!(kind, b'd' | b'q' | b'g')
 }
 
 pub fn is_setting(kind: u8) -> bool {
-    match kind {
-        b'v' => true,
-        b'w' => true,
-        b'b' => true,
-        _ => false,
-    }
+    matches!(kind, b'v' | b'w' | b'b')
 }
 
 // What is refused of a drafter or of rates, and whether a drafter drafts one block.
@@ -40,18 +30,16 @@ pub fn setting(kind: u8, input: &[u64], ours: &mut [u64]) -> usize
     if kind == b'w' {
         return answers::one(
             ours,
-            drafter::rates_refusal(plan_words::drafters::rates_at(input, 0, 1, 2)),
+            refusals::number_in(drafter::judge_rates(plan_words::drafters::rates_at(
+                input, 0, 1, 2,
+            ))),
         );
     }
     let head = plan_words::drafters::drafter_of(input);
     if kind == b'v' {
-        return answers::one(ours, drafter::drafter_refusal(head));
+        return answers::one(ours, refusals::number_in(drafter::judge_drafter(head)));
     }
-    answers::two(ours, 0, number(drafter::is_block(head)))
-}
-
-fn number(is_so: bool) -> u64 {
-    if is_so { 1 } else { 0 }
+    answers::two(ours, 0, u64::from(drafter::is_block(head)))
 }
 
 // Lends the lists to the cost of a kind.
@@ -70,7 +58,7 @@ pub fn cost(
     put_time(ours, ask(kind, input, &widths[0..w], &loaded[0..n]))
 }
 
-fn ask(kind: u8, input: &[u64], widths: &[u32], loaded: &[f64]) -> DraftTime {
+fn ask(kind: u8, input: &[u64], widths: &[u32], loaded: &[f64]) -> Result<f64, Refusal> {
     let head = plan_words::drafters::drafter_of(input);
     let batch = words::whole_at(input, 7);
     let rates = plan_words::drafters::rates_at(input, 8, 9, 10);
@@ -91,11 +79,11 @@ fn ask(kind: u8, input: &[u64], widths: &[u32], loaded: &[f64]) -> DraftTime {
     )
 }
 
-fn put_time(ours: &mut [u64], time: DraftTime) -> usize
+fn put_time(ours: &mut [u64], time: Result<f64, Refusal>) -> usize
     ensures { result ≤ length ours.new }
 {
     match time {
-        DraftTime::Seconds(value) => answers::two(ours, 0, float::bits(value)),
-        DraftTime::Refused(number) => answers::two(ours, number, 0),
+        Ok(value) => answers::two(ours, 0, float::bits(value)),
+        Err(refusal) => answers::two(ours, refusal.number(), 0),
     }
 }

@@ -2,10 +2,9 @@
 ghost use Rattle.std.specs.Prelude.{◌≤◌, length};
 
 use crate::kinds;
-use batch_ranges::{BatchRange, MaxBatch, Measured};
+use batch_ranges::BatchRange;
 use cases::{answers, lists, words};
-use cost_lookup::answer::PriceCurve;
-use step_times::Time;
+use refusals::Refusal;
 
 pub fn print(rt: HostRuntime, counts: &[u64]) {
     kinds::print(
@@ -16,16 +15,7 @@ pub fn print(rt: HostRuntime, counts: &[u64]) {
 }
 
 pub fn is_lookup(kind: u8) -> bool {
-    match kind {
-        b'j' => true,
-        b's' => true,
-        b'h' => true,
-        b'r' => true,
-        b'm' => true,
-        b'f' => true,
-        b'p' => true,
-        _ => false,
-    }
+    matches!(kind, b'j' | b's' | b'h' | b'r' | b'm' | b'f' | b'p')
 }
 
 // Lends the columns to the lookup of a kind.
@@ -66,8 +56,8 @@ fn ask(
 {
     let rows = words::at(input, 2) as usize;
     if kind == b'j' {
-        let refusal = cost_lookup::table_refusal(depths, batches, seconds, rows);
-        return answers::one(ours, refusal);
+        let judgement = cost_lookup::judge_table(depths, batches, seconds, rows);
+        return answers::one(ours, refusals::number_in(judgement));
     }
     if kind == b'p' {
         return prices(input, depths, batches, seconds, rows, ours);
@@ -143,11 +133,15 @@ fn prices(
     )
 }
 
-fn put_curve(ours: &mut [u64], curve: PriceCurve) -> usize
+// The prices; beside a refusal zeros.
+fn put_curve(ours: &mut [u64], curve: Result<[f64; 65], Refusal>) -> usize
     ensures { result ≤ length ours.new }
 {
-    let at = answers::one(ours, curve.refusal);
-    let prices = curve.prices;
+    let (number, prices) = match curve {
+        Ok(prices) => (0, prices),
+        Err(refusal) => (refusal.number(), [0.0; 65]),
+    };
+    let at = answers::one(ours, number);
     answers::put_floats(ours, at, &prices)
 }
 
@@ -181,42 +175,41 @@ fn depth(
     )
 }
 
-fn put_time(ours: &mut [u64], time: Time) -> usize
+fn put_time(ours: &mut [u64], time: Result<Option<f64>, Refusal>) -> usize
     ensures { result ≤ length ours.new }
 {
     match time {
-        Time::Seconds(value) => answers::three(ours, 0, 1, float::bits(value)),
-        Time::Unmeasured => answers::three(ours, 0, 0, 0),
-        Time::Refused(number) => answers::three(ours, number, 0, 0),
+        Ok(Some(value)) => answers::three(ours, 0, 1, float::bits(value)),
+        Ok(None) => answers::three(ours, 0, 0, 0),
+        Err(refusal) => answers::three(ours, refusal.number(), 0, 0),
     }
 }
 
-fn put_measured(ours: &mut [u64], measured: Measured) -> usize
+fn put_measured(ours: &mut [u64], measured: Result<bool, Refusal>) -> usize
     ensures { result ≤ length ours.new }
 {
     match measured {
-        Measured::Yes => answers::two(ours, 0, 1),
-        Measured::No => answers::two(ours, 0, 0),
-        Measured::Refused(number) => answers::two(ours, number, 0),
+        Ok(is_measured) => answers::two(ours, 0, u64::from(is_measured)),
+        Err(refusal) => answers::two(ours, refusal.number(), 0),
     }
 }
 
-fn put_range(ours: &mut [u64], range: BatchRange) -> usize
+fn put_range(ours: &mut [u64], range: Result<Option<BatchRange>, Refusal>) -> usize
     ensures { result ≤ length ours.new }
 {
     match range {
-        BatchRange::Between(low, high) => answers::four(ours, 0, 1, low as u64, high as u64),
-        BatchRange::Unmeasured => answers::four(ours, 0, 0, 0, 0),
-        BatchRange::Refused(number) => answers::four(ours, number, 0, 0, 0),
+        Ok(Some(range)) => answers::four(ours, 0, 1, range.low as u64, range.high as u64),
+        Ok(None) => answers::four(ours, 0, 0, 0, 0),
+        Err(refusal) => answers::four(ours, refusal.number(), 0, 0, 0),
     }
 }
 
-fn put_batch(ours: &mut [u64], batch: MaxBatch) -> usize
+fn put_batch(ours: &mut [u64], batch: Result<Option<u32>, Refusal>) -> usize
     ensures { result ≤ length ours.new }
 {
     match batch {
-        MaxBatch::Batch(largest) => answers::three(ours, 0, 1, largest as u64),
-        MaxBatch::Unmeasured => answers::three(ours, 0, 0, 0),
-        MaxBatch::Refused(number) => answers::three(ours, number, 0, 0),
+        Ok(Some(largest)) => answers::three(ours, 0, 1, largest as u64),
+        Ok(None) => answers::three(ours, 0, 0, 0),
+        Err(refusal) => answers::three(ours, refusal.number(), 0, 0),
     }
 }

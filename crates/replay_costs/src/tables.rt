@@ -2,7 +2,7 @@
 ghost use Rattle.std.specs.Prelude.{◌≤◌, length};
 
 use cases::{answers, lists, tally, words};
-use measured::Answer;
+use refusals::RefusedRow;
 
 // What each slot of whole numbers, and each of floats, holds before a text is read.
 const WHOLE_BEFORE: u32 = 0xDEAD_BEEF;
@@ -54,34 +54,18 @@ fn read_in(
 
 // Each slot holds what it holds before the call.
 fn lend(depths: &mut [u32], batches: &mut [u32], seconds: &mut [f64]) {
-    fill_whole(depths);
-    fill_whole(batches);
-    fill_floats(seconds);
-}
-
-fn fill_whole(column: &mut [u32]) {
-    let mut k = 0usize;
-    while k < column.len() {
-        column[k] = WHOLE_BEFORE;
-        k += 1;
-    }
-}
-
-fn fill_floats(column: &mut [f64]) {
-    let mut k = 0usize;
-    while k < column.len() {
-        column[k] = FLOAT_BEFORE;
-        k += 1;
-    }
+    depths.fill(WHOLE_BEFORE);
+    batches.fill(WHOLE_BEFORE);
+    seconds.fill(FLOAT_BEFORE);
 }
 
 // The refusal, its row and the rows that were kept.
-fn put_answer(ours: &mut [u64], answer: Answer) -> usize
+fn put_answer(ours: &mut [u64], answer: Result<u32, RefusedRow>) -> usize
     ensures { result ≤ length ours.new }
 {
     match answer {
-        Answer::Table { rows } => answers::three(ours, 0, 0, rows as u64),
-        Answer::Refused { number, row } => answers::three(ours, number, row, 0),
+        Ok(rows) => answers::three(ours, 0, 0, rows as u64),
+        Err(fault) => answers::three(ours, fault.refusal.number(), fault.row, 0),
     }
 }
 
