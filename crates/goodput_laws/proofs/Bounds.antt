@@ -1,13 +1,13 @@
 -- What is expected of a batch lies within 0 to 65,536 and its sign bit is clear, so that the best depth takes it: of chains that are accepted, of a model, and of a bank.
 -- A sum starts at 0.0, and 0.0 with minus zero added is 0.0, so that no sum of survivals is minus zero. Assumes nothing.
 use mathlib.Core.Path.{◌≡◌, refl, sym, ap, ◌∙◌, subst}
-use mathlib.Core.Bool.{Bool, true, false, cond, ◌&&◌}
+use mathlib.Core.Bool.{true, false, cond, ◌&&◌}
 use mathlib.Core.List.{List, [], ◌∷◌}
 use Prim.Native.Nat.{ℕ, zero, suc, ◌+◌, ◌-◌, ◌*◌, ◌^◌, ◌≤◌, ◌<◌, min}
 use native.Mathlib.Nat.{le_trans, le_of_eq, zero-lt-suc, mul_assoc, mul_left_comm, mul-le-mul_right, mul-pos}
 use native.Mathlib.Numerals.{add-one}
 use native.Mathlib.Omega.{arith}
-use borrow.Author.Tests.{ltb-false, le-ltb, leb-true}
+use borrow.Author.Tests.{ltb-false, le-ltb}
 use lib.Dec.{ltb, leb}
 use lib.IntN.{ℤ, pos}
 use lib.ListN.{length, get_or, take, drop, replicate, length-take}
@@ -28,8 +28,10 @@ use Rattle.chains.specs.Tests.{all_of, is_survival, is_accepted, most_accepted, 
 use Rattle.chains.specs.Expected.{add_running, with_chain, sums_with, expected_over, are_chains}
 use Rattle.budgets.specs.Budget.{values_from, model_values, bank_values}
 use Rattle.chains.proofs.Tested.{all_says}
-use Rattle.goodput_judges.specs.Refusals.{chains_refusal, model_values_refusal, bank_values_refusal}
-use Rattle.goodput_judges.proofs.Budgets.{model_passed, bank_passed}
+use Rattle.refusals.specs.Refusals.{Judgement, number_in}
+use Rattle.refusals.proofs.First.{passed_is_zero}
+use Rattle.goodput_judges.specs.Refusals.{chains_judged as judged_chains, model_values_judged, bank_values_judged, chains_refusal, model_values_refusal, bank_values_refusal}
+use Rattle.goodput_judges.proofs.Passed.{chains_passed, model_passed, bank_passed}
 use Rattle.goodput_laws.proofs.Survivals.{positive_low, negative_zero, times_low}
 
 -- ---- bounds of floats
@@ -160,29 +162,18 @@ unfolding all_of
 all_expected [] h = refl
 all_expected (x ∷ xs) h = rw (expected_is x h.0) (all_expected xs h.1)
 
-chains_passed : (a b c d z : Bool) → ◌≡◌ {A = ℕ} (cond (a && b) (cond (c && d) (cond z 0 15) 16) 11) 0 → (a ≡ true) × ((b ≡ true) × (z ≡ true))
-chains_passed true true true true true h = (refl, (refl, refl))
-chains_passed true true true true false h = absurd (let w : ⊥ = omega arith in w)
-chains_passed true true true false z h = absurd (let w : ⊥ = omega arith in w)
-chains_passed true true false d z h = absurd (let w : ⊥ = omega arith in w)
-chains_passed true false c d z h = absurd (let w : ⊥ = omega arith in w)
-chains_passed false b c d z h = absurd (let w : ⊥ = omega arith in w)
-
 pub chains_judged : (slots : List Float) (lengths : List ℕ) (gamma room : ℕ) → chains_refusal slots lengths gamma room ≡ 0 → are_chains gamma lengths slots ≡ true
-unfolding chains_refusal
-chains_judged slots lengths gamma room e =
-    (chains_passed (leb gamma 64) (leb (length lengths) 1024) (leb (length lengths * 64) (length slots)) (leb (gamma + 1) room) (are_chains gamma lengths slots) e).1.1
+chains_judged slots lengths gamma room e = (chains_passed slots lengths gamma room (passed_is_zero (judged_chains slots lengths gamma room) e)).tested
 
 -- what `expected_by_depth` writes
 pub expected_taken : (slots : List Float) (lengths : List ℕ) (gamma room : ℕ) → chains_refusal slots lengths gamma room ≡ 0 → all_of is_expected (take (gamma + 1) (expected_over gamma lengths slots)) ≡ true
-unfolding chains_refusal
 expected_taken slots lengths gamma room e =
-    let p = chains_passed (leb gamma 64) (leb (length lengths) 1024) (leb (length lengths * 64) (length slots)) (leb (gamma + 1) room) (are_chains gamma lengths slots) e in
-    let few : length lengths ≤ 1024 = leb-true (length lengths) 1024 p.1.0 in
-    let low : gamma ≤ 64 = leb-true gamma 64 p.0 in
+    let p = chains_passed slots lengths gamma room (passed_is_zero (judged_chains slots lengths gamma room) e) in
+    let few = p.counted.few in
+    let low = p.counted.shallow in
     all_expected (take (gamma + 1) (expected_over gamma lengths slots))
     (all_take 65536 (gamma + 1) (expected_over gamma lengths slots)
-    (all_more (0 + 64 * length lengths) 65536 (expected_over gamma lengths slots) (omega arith) (sums_up_to gamma lengths slots (replicate 65 f0) 0 p.1.1 low (omega arith) (all_zeros 65))))
+    (all_more (0 + 64 * length lengths) 65536 (expected_over gamma lengths slots) (omega arith) (sums_up_to gamma lengths slots (replicate 65 f0) 0 p.tested low (omega arith) (all_zeros 65))))
 
 -- ---- n times a value of at most 64
 n_times : (n : ℕ) (x : Float) → n ≤ 1024 → UpTo 64 x → is_expected (times (whole n) x) ≡ true
@@ -226,10 +217,11 @@ module _ (model : AcceptanceModel) (positions : List Float) (judged : model_refu
 -- what `model_expected` writes
 pub model_taken : (model : AcceptanceModel) (positions : List Float) (gamma n room : ℕ) → model_values_refusal model positions gamma n room ≡ 0 → all_of is_expected (model_values model positions n gamma) ≡ true
 model_taken model positions gamma n room e =
-    let p = model_passed model positions gamma n room 0 (sym e) (omega arith) in
-    let low = p.shallow in
+    let p = model_passed model positions gamma n room (passed_is_zero (model_values_judged model positions gamma n room) e) in
+    let low = p.counted.shallow in
+    let judged : model_refusal model positions ≡ 0 = ap (λ (j : Judgement). number_in j) p.judged in
     values_expected (λ g. times (whole n) (expected_to model positions g)) (gamma + 1) 0
-    (λ g l. n_times n (expected_to model positions g) p.few (up_to_more g 64 (expected_to model positions g) (omega arith) (accepted_up_to model positions p.judged g (omega arith))))
+    (λ g l. n_times n (expected_to model positions g) p.counted.few (up_to_more g 64 (expected_to model positions g) (omega arith) (accepted_up_to model positions judged g (omega arith))))
 
 -- ---- of a bank
 sixty_four_is : most_accepted ≡ fin false 1 (pos 6)
@@ -250,10 +242,10 @@ entry_is x h = entry_up_to x (range_clear f0 most_accepted x h) (ap (λ (y : Flo
 -- what `bank_expected` writes
 pub bank_taken : (curve : List Float) (depth gamma n room : ℕ) → bank_values_refusal curve depth gamma n room ≡ 0 → all_of is_expected (bank_values curve depth n gamma) ≡ true
 bank_taken curve depth gamma n room e =
-    let p = bank_passed curve depth gamma n room 0 (sym e) (omega arith) in
+    let p = bank_passed curve depth gamma n room (passed_is_zero (bank_values_judged curve depth gamma n room) e) in
     let used = take (min gamma depth + 1) curve in
     let long : min gamma depth + 1 ≤ length used = omega (arith, length-take (min gamma depth + 1) curve, p.there) in
     let at : (g : ℕ) → g < 0 + (gamma + 1) → UpTo 64 (get_or curve (min g depth) nan) = λ g l.
     let i : min g depth < min gamma depth + 1 = omega arith in
     entry_is (get_or curve (min g depth) nan) (ap is_accepted (sym (get_or-take (min gamma depth + 1) curve (min g depth) nan i)) ∙ all_says is_accepted nan used p.in_range_lem (min g depth) (omega arith)) in
-    values_expected (λ g. times (whole n) (get_or curve (min g depth) nan)) (gamma + 1) 0 (λ g l. n_times n (get_or curve (min g depth) nan) p.few (at g l))
+    values_expected (λ g. times (whole n) (get_or curve (min g depth) nan)) (gamma + 1) 0 (λ g l. n_times n (get_or curve (min g depth) nan) p.counted.few (at g l))

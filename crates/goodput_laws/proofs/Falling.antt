@@ -1,6 +1,6 @@
 -- A survival chain never rises: no slot is above the slot before it. A product of a float and a number of at most 1 is no larger than the float, and the float is held exactly, so the rounded product is no larger either. Assumes nothing.
 use mathlib.Core.Path.{◌≡◌, refl, sym, ap, ◌∙◌, subst}
-use mathlib.Core.Bool.{Bool, true, false, cond, ◌&&◌}
+use mathlib.Core.Bool.{Bool, true, false, ◌&&◌}
 use mathlib.Core.List.{List, [], ◌∷◌, ◌++◌}
 use Prim.Native.Nat.{ℕ, zero, suc, ◌+◌, ◌-◌, ◌*◌, ◌^◌, ◌%◌, ◌≤◌, ◌<◌}
 use native.Mathlib.Nat.{le_trans, le_of_eq, lt_of_lt_of_le, zero-lt-suc, mul_assoc, mul-one, mul_right_comm, mul-le-mul_left, mul-le-mul_right, mul-pos, zero-mul, le_of_mul-le-mul_right}
@@ -26,7 +26,9 @@ use Rattle.float.proofs.Clamped.{unit_signed}
 use Rattle.chains.specs.Scan.{scan}
 use Rattle.chains.specs.Tests.{all_of, is_survival}
 use Rattle.chains.specs.Survival.{survive, products, survival_chain}
-use Rattle.goodput_judges.specs.Refusals.{survival_refusal}
+use Rattle.refusals.proofs.First.{passed_is_zero}
+use Rattle.goodput_judges.specs.Refusals.{survival_judged, survival_refusal}
+use Rattle.goodput_judges.proofs.Passed.{survival_passed}
 use Rattle.goodput_laws.proofs.Survivals.{one_survives, zero_survives, positive_low, negative_zero, right_zero, product_held}
 
 -- ---- what a format holds is rounded to itself
@@ -171,10 +173,7 @@ one_fits = tt
 
 -- all 64 slots of a chain that is not refused, from 1.0 on
 pub chain_falls : (signal : List Float) (length : ℕ) → survival_refusal signal length ≡ 0 → NeverRises f1 (survival_chain signal length)
-unfolding survival_refusal survival_chain
-chain_falls signal length e = go (leb length 64) (all_of is_finite (take length signal)) refl e
-  where
-    go : (a b : Bool) → all_of is_finite (take length signal) ≡ b → ◌≡◌ {A = ℕ} (cond a (cond b 0 15) 11) 0 → NeverRises f1 (products f1 (take length signal) ++ replicate (64 - length) f0)
-    go true true p z = products_fall f1 (take length signal) (replicate (64 - length) f0) one_fits one_survives p (λ t h. zeros_stay (64 - length) t h)
-    go true false p z = absurd (let w : ⊥ = omega arith in w)
-    go false b p z = absurd (let w : ⊥ = omega arith in w)
+unfolding survival_chain
+chain_falls signal length e =
+    let finite = (survival_passed signal length (passed_is_zero (survival_judged signal length) e)).1 in
+    products_fall f1 (take length signal) (replicate (64 - length) f0) one_fits one_survives finite (λ t h. zeros_stay (64 - length) t h)

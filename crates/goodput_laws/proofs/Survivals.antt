@@ -1,12 +1,12 @@
 -- A chain made from finite confidences holds survivals at every slot, 0 to 1 or minus zero, so that a gate takes it. Assumes nothing.
 use mathlib.Core.Path.{◌≡◌, refl, sym, ap, ◌∙◌, subst}
-use mathlib.Core.Bool.{Bool, true, false, cond}
+use mathlib.Core.Bool.{Bool, true, false}
 use mathlib.Core.List.{List, [], ◌∷◌, ◌++◌}
 use Prim.Native.Nat.{ℕ, zero, suc, ◌+◌, ◌-◌, ◌*◌, ◌≤◌, ◌<◌}
 use native.Mathlib.Nat.{mul-pos, zero-mul, zero-lt-suc, le_trans, mul-le-mul_left, mul-le-mul_right, mul_comm}
 use native.Mathlib.Omega.{arith}
 use borrow.Author.Tests.{ltb-false, le-ltb}
-use lib.Dec.{T, leb}
+use lib.Dec.{T}
 use lib.IntN.{ℤ, pos}
 use lib.ListN.{take, replicate}
 use lib.Ieee.{Float, nan, inf, fin, binary64, up, down, round, mul, lt, le, eq, is_nan, of_bits, unlike}
@@ -24,7 +24,9 @@ use Rattle.float.proofs.Clamped.{unit_signed}
 use Rattle.chains.specs.Scan.{scan}
 use Rattle.chains.specs.Tests.{all_of, is_survival}
 use Rattle.chains.specs.Survival.{survive, products, survival_chain}
-use Rattle.goodput_judges.specs.Refusals.{survival_refusal}
+use Rattle.refusals.proofs.First.{passed_is_zero}
+use Rattle.goodput_judges.specs.Refusals.{survival_judged, survival_refusal}
+use Rattle.goodput_judges.proofs.Passed.{survival_passed}
 
 -- ---- a clear float that is at most 1 is a survival
 not_above : (x : Float) → is_clear x ≡ true → T (le x (fin false 1 (pos 0))) → lt (fin false 1 (pos 0)) x ≡ false
@@ -141,10 +143,7 @@ append_held (x ∷ xs) ys p q = let u = both (is_survival x) (all_of is_survival
 
 -- all 64 slots of a chain that is not refused
 pub chain_held : (signal : List Float) (length : ℕ) → survival_refusal signal length ≡ 0 → all_of is_survival (survival_chain signal length) ≡ true
-unfolding survival_refusal survival_chain
-chain_held signal length e = go (leb length 64) (all_of is_finite (take length signal)) refl e
-  where
-    go : (a b : Bool) → all_of is_finite (take length signal) ≡ b → ◌≡◌ {A = ℕ} (cond a (cond b 0 15) 11) 0 → all_of is_survival (products f1 (take length signal) ++ replicate (64 - length) f0) ≡ true
-    go true true p z = append_held (products f1 (take length signal)) (replicate (64 - length) f0) (products_held f1 (take length signal) one_survives p) (zeros_held (64 - length))
-    go true false p z = absurd (let w : ⊥ = omega arith in w)
-    go false b p z = absurd (let w : ⊥ = omega arith in w)
+unfolding survival_chain
+chain_held signal length e =
+    let finite = (survival_passed signal length (passed_is_zero (survival_judged signal length) e)).1 in
+    append_held (products f1 (take length signal)) (replicate (64 - length) f0) (products_held f1 (take length signal) one_survives finite) (zeros_held (64 - length))
