@@ -11,7 +11,7 @@ use lib.Ieee.{Float, of_bits}
 use Rattle.laws.proofs.Both.{both}
 use Rattle.float.specs.Floats.{f0, f1, is_finite}
 use Rattle.float.proofs.Ranges.{range_finite}
-use Rattle.acceptance.specs.Acceptance.{model_refusal}
+use Rattle.acceptance.specs.Acceptance.{model_judged, model_refusal}
 use Rattle.acceptance.specs.declared.AcceptanceModel.{AcceptanceModel}
 use Rattle.acceptance.specs.declared.AcceptanceModel.TheVariants.{Constant, PerPosition, Trace}
 use Rattle.acceptance.proofs.Judged.{value_in_range}
@@ -21,7 +21,9 @@ use Rattle.chains.specs.Expected.{are_chains}
 use Rattle.budgets.specs.Budget.{model_values, bank_values}
 use Rattle.depth_laws.proofs.Wins.{AllClear}
 use Rattle.depth_laws.proofs.Domain.{expected_clear, chains_clear}
-use Rattle.goodput_judges.specs.Refusals.{survival_refusal, model_values_refusal, bank_sizes_refusal, bank_values_refusal}
+use Rattle.std.specs.Prelude.{Ok}
+use Rattle.refusals.proofs.First.{passed_is_zero}
+use Rattle.goodput_judges.specs.Refusals.{counts_judged, survival_judged, model_values_judged, bank_sizes_judged, bank_values_judged, survival_refusal, model_values_refusal, bank_values_refusal}
 use Rattle.goodput_laws.proofs.Bounds.{model_taken, bank_taken}
 use Rattle.goodput_laws.proofs.Survivals.{chain_held}
 use Rattle.settings.specs.Settings.{is_trace}
@@ -59,7 +61,7 @@ unfolding is_finite of_bits
 f1_finite = refl
 
 signal_passes : (cs : List Float) (gamma : ℕ) → gamma ≤ 64 → all_of is_finite cs ≡ true → survival_refusal (slots cs) gamma ≡ 0
-unfolding survival_refusal
+unfolding survival_judged
 signal_passes cs gamma h f = rw (le-leb gamma 64 h, all_take is_finite gamma (slots cs) (all_append is_finite cs _ f (all_replicate is_finite (64 - length cs) f0 f0_finite)))
 
 chain_survives : (cs : List Float) (gamma : ℕ) → gamma ≤ 64 → all_of is_finite cs ≡ true → all_of is_survival (survival_chain (slots cs) gamma) ≡ true
@@ -117,8 +119,10 @@ module _ (gamma : ℕ) (low : gamma ≤ 64) where
   -- ---- by the mean
   module _ (n : ℕ) (few : n ≤ 1024) where
     model_passes : (model : AcceptanceModel) (positions : List Float) → model_refusal model positions ≡ 0 → model_values_refusal model positions gamma n 65 ≡ 0
-    unfolding model_values_refusal
-    model_passes model positions j = rw (j, le-leb gamma 64 low, le-leb n 1024 few, le-leb (gamma + 1) 65 (omega arith))
+    unfolding model_values_judged counts_judged
+    model_passes model positions j =
+        let m : model_judged model positions ≡ Ok tt = passed_is_zero (model_judged model positions) j in
+        rw (m, le-leb gamma 64 low, le-leb n 1024 few, le-leb (gamma + 1) 65 (omega arith))
 
     values_clear : (model : AcceptanceModel) (positions : List Float) → model_refusal model positions ≡ 0 → AllClear (model_values model positions n gamma)
     values_clear model positions j = expected_clear (model_values model positions n gamma) (model_taken model positions gamma n 65 (model_passes model positions j))
@@ -132,7 +136,7 @@ module _ (gamma : ℕ) (low : gamma ≤ 64) where
       pub in_range_lem : all_of is_accepted (take (gamma + 1) bank) ≡ true
 
     bank_passes : (bank : List Float) (depth : ℕ) → Bank bank depth → bank_values_refusal bank depth gamma n 65 ≡ 0
-    unfolding bank_values_refusal bank_sizes_refusal
+    unfolding bank_values_judged bank_sizes_judged counts_judged
     bank_passes bank depth b =
         let m : min gamma depth ≡ gamma = omega (arith, b.within) in
         rw (m, le-leb 1 depth b.some, le-leb depth 64 b.shallow, le-leb gamma 64 low, le-leb n 1024 few, le-leb (gamma + 1) (length bank) (omega (arith, b.there)), le-leb (gamma + 1) 65 (omega arith), b.in_range_lem)
