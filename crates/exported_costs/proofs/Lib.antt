@@ -1,3 +1,1 @@
-mod Cases
-mod Prices
 pub mod Handed

@@ -1,75 +1,54 @@
 -- What is told of each answer: the number of the refusal, 0 for none, and two figures; floats by their bits. Assumes nothing.
-use Rattle.std.specs.Prelude.{ℕ, ◌+◌, cond, ltb, get_or}
+use Rattle.std.specs.Prelude.{ℕ, ◌+◌, Bool, true, false, cond, List, ltb, get_or, Float, Option, Some, None, Result, Ok, Err}
 use Rattle.std.specs.Float.{nan, binary64}
 use Rattle.std.specs.Float.Ieee.{to_bits}
-use Rattle.bank.specs.declared.Expected.{Expected as Entry}
-use Rattle.bank.specs.declared.Expected.TheVariants.{Value as EntryIs, Refused as NoEntry}
-use Rattle.acceptance.specs.declared.Expected.{Expected}
-use Rattle.acceptance.specs.declared.Expected.TheVariants.{Value, Refused as NoValue}
 use Rattle.acceptance.specs.declared.Sample.{Sample}
-use Rattle.acceptance.specs.declared.Sample.TheVariants.{Accepted, Refused as NoSample}
-use Rattle.step_times.specs.declared.Time.{Time}
-use Rattle.step_times.specs.declared.Time.TheVariants.{Seconds, Unmeasured as NotTimed, Refused as NoTime}
-use Rattle.batch_ranges.specs.declared.Measured.{Measured}
-use Rattle.batch_ranges.specs.declared.Measured.TheVariants.{Yes, No, Refused as NotSaid}
 use Rattle.batch_ranges.specs.declared.BatchRange.{BatchRange}
-use Rattle.batch_ranges.specs.declared.BatchRange.TheVariants.{Between, Unmeasured as NotBetween, Refused as NoRange}
-use Rattle.batch_ranges.specs.declared.MaxBatch.{MaxBatch}
-use Rattle.batch_ranges.specs.declared.MaxBatch.TheVariants.{Batch, Unmeasured as NotBatched, Refused as NoBatch}
-use Rattle.cost_lookup.specs.declared.answer.PriceCurve.{PriceCurve}
+use Rattle.refusals.specs.declared.Refusal.{Refusal}
+use Rattle.refusals.specs.Refusals.{number_of}
 use Rattle.speculative.specs.declared.drafter.DrafterCost.{DrafterCost}
 use Rattle.speculative.specs.declared.drafter.DrafterCost.TheVariants.{Fraction, Autoregressive, BlockParallel}
-use Rattle.speculative.specs.declared.drafter.DraftTime.{DraftTime}
-use Rattle.speculative.specs.declared.drafter.DraftTime.TheVariants.{Seconds as Taken, Refused as Untimed}
 use Rattle.exported.specs.declared.Told.{Told}
 use Rattle.exported.specs.Telling.{told}
 
--- the value
-unfoldable pub entry_told : Entry → Told
-entry_told (EntryIs x) = told 0 (to_bits binary64 x) 0
-entry_told (NoEntry number) = told number 0 0
-
-unfoldable pub value_told : Expected → Told
-value_told (Value x) = told 0 (to_bits binary64 x) 0
-value_told (NoValue number) = told number 0 0
+-- a value or seconds
+unfoldable pub float_told : Result Float Refusal → Told
+float_told (Ok x) = told 0 (to_bits binary64 x) 0
+float_told (Err refusal) = told (number_of refusal) 0 0
 
 -- the commits, and the draws used
-unfoldable pub sample_told : Sample → Told
-sample_told (Accepted commits used) = told 0 commits used
-sample_told (NoSample number) = told number 0 0
+unfoldable pub sample_told : Result Sample Refusal → Told
+sample_told (Ok sample) = told 0 sample.commits sample.used
+sample_told (Err refusal) = told (number_of refusal) 0 0
 
 -- 1 where it is measured, and the seconds
-unfoldable pub time_told : Time → Told
-time_told (Seconds x) = told 0 1 (to_bits binary64 x)
-time_told NotTimed = told 0 0 0
-time_told (NoTime number) = told number 0 0
+unfoldable pub time_told : Result (Option Float) Refusal → Told
+time_told (Ok (Some x)) = told 0 1 (to_bits binary64 x)
+time_told (Ok None) = told 0 0 0
+time_told (Err refusal) = told (number_of refusal) 0 0
 
 -- 1 for yes
-unfoldable pub measured_told : Measured → Told
-measured_told Yes = told 0 1 0
-measured_told No = told 0 0 0
-measured_told (NotSaid number) = told number 0 0
+unfoldable pub measured_told : Result Bool Refusal → Told
+measured_told (Ok true) = told 0 1 0
+measured_told (Ok false) = told 0 0 0
+measured_told (Err refusal) = told (number_of refusal) 0 0
 
 -- one more than the first batch, 0 where it is unmeasured, and the last batch
-unfoldable pub range_told : BatchRange → Told
-range_told (Between low high) = told 0 (low + 1) high
-range_told NotBetween = told 0 0 0
-range_told (NoRange number) = told number 0 0
+unfoldable pub range_told : Result (Option BatchRange) Refusal → Told
+range_told (Ok (Some range)) = told 0 (range.low + 1) range.high
+range_told (Ok None) = told 0 0 0
+range_told (Err refusal) = told (number_of refusal) 0 0
 
 -- 1 where it is measured, and the batch
-unfoldable pub batch_told : MaxBatch → Told
-batch_told (Batch batch) = told 0 1 batch
-batch_told NotBatched = told 0 0 0
-batch_told (NoBatch number) = told number 0 0
+unfoldable pub batch_told : Result (Option ℕ) Refusal → Told
+batch_told (Ok (Some batch)) = told 0 1 batch
+batch_told (Ok None) = told 0 0 0
+batch_told (Err refusal) = told (number_of refusal) 0 0
 
 -- the price of a depth, 0 where there is no such depth
-unfoldable pub price_told : ℕ → PriceCurve → Told
-price_told at curve = told curve.refusal (cond (ltb at 65) (to_bits binary64 (get_or curve.prices at nan)) 0) 0
-
--- the seconds
-unfoldable pub seconds_told : DraftTime → Told
-seconds_told (Taken x) = told 0 (to_bits binary64 x) 0
-seconds_told (Untimed number) = told number 0 0
+unfoldable pub price_told : ℕ → Result (List Float) Refusal → Told
+price_told at (Ok prices) = told 0 (cond (ltb at 65) (to_bits binary64 (get_or prices at nan)) 0) 0
+price_told at (Err refusal) = told (number_of refusal) 0 0
 
 -- the number of its kind, and its first size
 unfoldable pub drafter_told : DrafterCost → Told

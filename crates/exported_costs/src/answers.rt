@@ -3,13 +3,13 @@ ghost use Rattle.std.specs.Prelude.{◌≡◌};
 ghost use Rattle.std.specs.Float.{binary64};
 ghost use Rattle.std.specs.Float.Ieee.{to_bits};
 ghost use Rattle.exported.specs.Telling.{told};
-ghost use Rattle.exported_costs.specs.Answers.{entry_told, value_told, sample_told, time_told, measured_told, range_told, batch_told, seconds_told, drafter_told};
+ghost use Rattle.exported_costs.specs.Answers.{float_told, sample_told, time_told, measured_told, range_told, batch_told, price_told, drafter_told};
 
-use acceptance::{Expected, Sample};
-use batch_ranges::{BatchRange, MaxBatch, Measured};
+use acceptance::Sample;
+use batch_ranges::BatchRange;
 use exported::Told;
-use speculative::drafter::{DraftTime, DrafterCost};
-use step_times::Time;
+use refusals::Refusal;
+use speculative::drafter::DrafterCost;
 
 pub fn refused(number: u64) -> Told
     ensures { result ≡ told number 0 0 }
@@ -48,82 +48,84 @@ fn tell_beside(first: u64, x: f64) -> Told
     tell(first, second)
 }
 
-pub fn of_entry(answer: bank::Expected) -> Told
-    ensures { result ≡ entry_told answer }
+// A value or seconds.
+#[tactic(auto, unfolding(crate::specs::Answers::float_told))]
+pub fn of_float(answer: Result<f64, Refusal>) -> Told
+    ensures { result ≡ float_told answer }
 {
     match answer {
-        bank::Expected::Value(x) => tell_float(x),
-        bank::Expected::Refused(number) => refused(number),
+        Ok(x) => tell_float(x),
+        Err(refusal) => refused(refusal.number()),
     }
 }
 
-pub fn of_value(answer: Expected) -> Told
-    ensures { result ≡ value_told answer }
-{
-    match answer {
-        Expected::Value(x) => tell_float(x),
-        Expected::Refused(number) => refused(number),
-    }
-}
-
-pub fn of_sample(answer: Sample) -> Told
+#[tactic(auto, unfolding(crate::specs::Answers::sample_told))]
+pub fn of_sample(answer: Result<Sample, Refusal>) -> Told
     ensures { result ≡ sample_told answer }
 {
     match answer {
-        Sample::Accepted { commits, used } => tell(commits as u64, used as u64),
-        Sample::Refused(number) => refused(number),
+        Ok(sample) => tell(sample.commits as u64, sample.used as u64),
+        Err(refusal) => refused(refusal.number()),
     }
 }
 
-pub fn of_time(answer: Time) -> Told
+#[tactic(auto, unfolding(crate::specs::Answers::time_told))]
+pub fn of_time(answer: Result<Option<f64>, Refusal>) -> Told
     ensures { result ≡ time_told answer }
 {
     match answer {
-        Time::Seconds(x) => tell_beside(1, x),
-        Time::Unmeasured => tell(0, 0),
-        Time::Refused(number) => refused(number),
+        Ok(Some(x)) => tell_beside(1, x),
+        Ok(None) => tell(0, 0),
+        Err(refusal) => refused(refusal.number()),
     }
 }
 
-pub fn of_measured(answer: Measured) -> Told
+#[tactic(auto, unfolding(crate::specs::Answers::measured_told))]
+pub fn of_measured(answer: Result<bool, Refusal>) -> Told
     ensures { result ≡ measured_told answer }
 {
     match answer {
-        Measured::Yes => tell(1, 0),
-        Measured::No => tell(0, 0),
-        Measured::Refused(number) => refused(number),
+        Ok(true) => tell(1, 0),
+        Ok(false) => tell(0, 0),
+        Err(refusal) => refused(refusal.number()),
     }
 }
 
-pub fn of_range(answer: BatchRange) -> Told
+#[tactic(auto, unfolding(crate::specs::Answers::range_told))]
+pub fn of_range(answer: Result<Option<BatchRange>, Refusal>) -> Told
     ensures { result ≡ range_told answer }
 {
     match answer {
-        BatchRange::Between(low, high) => tell(low as u64 + 1, high as u64),
-        BatchRange::Unmeasured => tell(0, 0),
-        BatchRange::Refused(number) => refused(number),
+        Ok(Some(range)) => tell(range.low as u64 + 1, range.high as u64),
+        Ok(None) => tell(0, 0),
+        Err(refusal) => refused(refusal.number()),
     }
 }
 
-pub fn of_batch(answer: MaxBatch) -> Told
+#[tactic(auto, unfolding(crate::specs::Answers::batch_told))]
+pub fn of_batch(answer: Result<Option<u32>, Refusal>) -> Told
     ensures { result ≡ batch_told answer }
 {
     match answer {
-        MaxBatch::Batch(batch) => tell(1, batch as u64),
-        MaxBatch::Unmeasured => tell(0, 0),
-        MaxBatch::Refused(number) => refused(number),
+        Ok(Some(batch)) => tell(1, batch as u64),
+        Ok(None) => tell(0, 0),
+        Err(refusal) => refused(refusal.number()),
     }
 }
 
-pub fn of_seconds(answer: DraftTime) -> Told
-    ensures { result ≡ seconds_told answer }
+// The price of depth `at`, 0 where there is no such depth.
+#[tactic(auto, unfolding(crate::specs::Answers::price_told))]
+pub fn of_price(at: usize, answer: Result<[f64; 65], Refusal>) -> Told
+    ensures { result ≡ price_told at answer }
 {
     match answer {
-        DraftTime::Seconds(x) => tell_float(x),
-        DraftTime::Refused(number) => refused(number),
+        Ok(prices) if at < 65 => tell_float(prices[at]),
+        Ok(_) => tell(0, 0),
+        Err(refusal) => refused(refusal.number()),
     }
 }
 
+#[tactic(auto, unfolding(crate::specs::Answers::drafter_told))]
 pub fn of_drafter(drafter: DrafterCost) -> Told
     ensures { result ≡ drafter_told drafter }
 {

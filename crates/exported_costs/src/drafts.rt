@@ -2,7 +2,7 @@
 ghost use Rattle.std.specs.Prelude.{◌≡◌};
 ghost use Rattle.speculative.specs.Drafter.{absent, is_block, drafter_refusal, rates_refusal, draft_seconds, draft_pass, draft_ragged};
 ghost use Rattle.exported_costs.specs.Asked.{drafter_of, rates_of};
-ghost use Rattle.exported_costs.specs.Answers.{seconds_told, drafter_told};
+ghost use Rattle.exported_costs.specs.Answers.{float_told, drafter_told};
 
 use crate::{answers, asked};
 use exported::Told;
@@ -29,7 +29,7 @@ pub fn speculative_drafter_refusal(kind: u32, p: f64, q: f64, x: u32, y: u32, z:
     ensures { result ≡ drafter_refusal (drafter_of kind p q x y z) }
 {
     let head = asked::drafter_of(kind, p, q, x, y, z);
-    drafter::drafter_refusal(head)
+    refusals::number_in(drafter::judge_drafter(head))
 }
 
 // The number of the refusal, 0 for none.
@@ -37,7 +37,7 @@ pub fn speculative_rates_refusal(peak: f64, bw: f64, kv_delta: f64) -> u64
     ensures { result ≡ rates_refusal (rates_of peak bw kv_delta) }
 {
     let rates = asked::rates_of(peak, bw, kv_delta);
-    drafter::rates_refusal(rates)
+    refusals::number_in(drafter::judge_rates(rates))
 }
 
 // `first` is the seconds.
@@ -56,12 +56,12 @@ pub fn speculative_seconds(
     verify_c: f64,
     loaded: &[f64],
 ) -> Told
-    ensures { result ≡ seconds_told (draft_seconds (drafter_of kind p q x y z) gamma batch (rates_of peak bw kv_delta) verify_c loaded.now) }
+    ensures { result ≡ float_told (draft_seconds (drafter_of kind p q x y z) gamma batch (rates_of peak bw kv_delta) verify_c loaded.now) }
 {
     let head = asked::drafter_of(kind, p, q, x, y, z);
     let rates = asked::rates_of(peak, bw, kv_delta);
     let answer = drafter::seconds(head, gamma, batch, rates, verify_c, loaded);
-    answers::of_seconds(answer)
+    answers::of_float(answer)
 }
 
 // `first` is the seconds.
@@ -78,12 +78,12 @@ pub fn speculative_pass_seconds(
     kv_delta: f64,
     loaded: &[f64],
 ) -> Told
-    ensures { result ≡ seconds_told (draft_pass (drafter_of kind p q x y z) batch (rates_of peak bw kv_delta) loaded.now) }
+    ensures { result ≡ float_told (draft_pass (drafter_of kind p q x y z) batch (rates_of peak bw kv_delta) loaded.now) }
 {
     let head = asked::drafter_of(kind, p, q, x, y, z);
     let rates = asked::rates_of(peak, bw, kv_delta);
     let answer = drafter::pass_seconds(head, batch, rates, loaded);
-    answers::of_seconds(answer)
+    answers::of_float(answer)
 }
 
 // `first` is the seconds.
@@ -101,10 +101,10 @@ pub fn speculative_ragged_seconds(
     verify_c: f64,
     loaded: &[f64],
 ) -> Told
-    ensures { result ≡ seconds_told (draft_ragged (drafter_of kind p q x y z) widths.now (rates_of peak bw kv_delta) verify_c loaded.now) }
+    ensures { result ≡ float_told (draft_ragged (drafter_of kind p q x y z) widths.now (rates_of peak bw kv_delta) verify_c loaded.now) }
 {
     let head = asked::drafter_of(kind, p, q, x, y, z);
     let rates = asked::rates_of(peak, bw, kv_delta);
     let answer = drafter::ragged_seconds(head, widths, rates, verify_c, loaded);
-    answers::of_seconds(answer)
+    answers::of_float(answer)
 }

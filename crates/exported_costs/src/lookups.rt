@@ -2,17 +2,17 @@
 ghost use Rattle.std.specs.Prelude.{◌≡◌};
 ghost use Rattle.bank.specs.Acceptance.{expected_accepted};
 ghost use Rattle.cost_lookup.specs.Entry.{table_refusal, step_time_at, step_time_frac_at, has_draft_at, batch_range_at, max_batch_at, price_curve_at};
-ghost use Rattle.exported_costs.specs.Answers.{entry_told, time_told, measured_told, range_told, batch_told, price_told};
+ghost use Rattle.exported_costs.specs.Answers.{float_told, time_told, measured_told, range_told, batch_told, price_told};
 
 use crate::answers;
 use exported::Told;
 
 // `first` is the value.
 pub fn bank_expected_accepted(curve: &[f64], depth: u32, gamma: u32) -> Told
-    ensures { result ≡ entry_told (expected_accepted curve.now depth gamma) }
+    ensures { result ≡ float_told (expected_accepted curve.now depth gamma) }
 {
     let answer = bank::expected_accepted(curve, depth, gamma);
-    answers::of_entry(answer)
+    answers::of_float(answer)
 }
 
 // The number of the refusal, 0 for none.
@@ -24,7 +24,7 @@ pub fn cost_lookup_table_refusal(
 ) -> u64
     ensures { result ≡ table_refusal rows depths.now batches.now seconds.now }
 {
-    cost_lookup::table_refusal(depths, batches, seconds, rows)
+    refusals::number_in(cost_lookup::judge_table(depths, batches, seconds, rows))
 }
 
 // `first` is 1 where it is measured, and `second` the seconds.
@@ -111,16 +111,6 @@ pub fn cost_lookup_price_curve(
 ) -> Told
     ensures { result ≡ price_told at (price_curve_at rows depths.now batches.now seconds.now batch kv_delta) }
 {
-    let curve = cost_lookup::price_curve(depths, batches, seconds, rows, batch, kv_delta);
-    let refusal = curve.refusal;
-    if at < 65 {
-        let price = curve.prices[at];
-        let first = float::bits(price);
-        return Told {
-            refusal,
-            first,
-            second: 0,
-        };
-    }
-    answers::refused(refusal)
+    let answer = cost_lookup::price_curve(depths, batches, seconds, rows, batch, kv_delta);
+    answers::of_price(at, answer)
 }

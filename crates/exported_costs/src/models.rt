@@ -2,7 +2,7 @@
 ghost use Rattle.std.specs.Prelude.{◌≡◌};
 ghost use Rattle.acceptance.specs.Acceptance.{a_d, model_refusal, expected_accepted, sample_accepted};
 ghost use Rattle.exported_costs.specs.Asked.{model_of};
-ghost use Rattle.exported_costs.specs.Answers.{value_told, sample_told};
+ghost use Rattle.exported_costs.specs.Answers.{float_told, sample_told};
 
 use crate::{answers, asked};
 use exported::Told;
@@ -20,16 +20,16 @@ pub fn acceptance_model_refusal(model: u32, alpha: f64, positions: &[f64]) -> u6
     ensures { result ≡ model_refusal (model_of model alpha) positions.now }
 {
     let accepts = asked::model_of(model, alpha);
-    acceptance::model_refusal(accepts, positions)
+    refusals::number_in(acceptance::judge_model(accepts, positions))
 }
 
 // `first` is the value.
 pub fn acceptance_expected_accepted(model: u32, alpha: f64, positions: &[f64], gamma: u32) -> Told
-    ensures { result ≡ value_told (expected_accepted (model_of model alpha) positions.now gamma) }
+    ensures { result ≡ float_told (expected_accepted (model_of model alpha) positions.now gamma) }
 {
     let accepts = asked::model_of(model, alpha);
     let answer = acceptance::expected_accepted(accepts, positions, gamma);
-    answers::of_value(answer)
+    answers::of_float(answer)
 }
 
 // `first` is the commits, and `second` the draws used.

@@ -2,7 +2,7 @@
 ghost use Rattle.std.specs.Prelude.{◌≡◌};
 ghost use Rattle.speculative.specs.Drafter.{absent, is_block, drafter_refusal, rates_refusal, draft_seconds, draft_pass, draft_ragged};
 ghost use Rattle.exported_costs.specs.Asked.{drafter_of, rates_of};
-ghost use Rattle.exported_costs.specs.Answers.{seconds_told, drafter_told};
+ghost use Rattle.exported_costs.specs.Answers.{float_told, drafter_told};
 
 use exported::Told;
 
@@ -62,7 +62,7 @@ pub extern "C" fn speculative_seconds(
     verify_c: f64,
     loaded: &[f64],
 ) -> Told
-    ensures { result ≡ seconds_told (draft_seconds (drafter_of kind p q x y z) gamma batch (rates_of peak bw kv_delta) verify_c loaded.now) }
+    ensures { result ≡ float_told (draft_seconds (drafter_of kind p q x y z) gamma batch (rates_of peak bw kv_delta) verify_c loaded.now) }
 {
     exported_costs::drafts::speculative_seconds(
         kind, p, q, x, y, z, gamma, batch, peak, bw, kv_delta, verify_c, loaded,
@@ -84,7 +84,7 @@ pub extern "C" fn speculative_pass_seconds(
     kv_delta: f64,
     loaded: &[f64],
 ) -> Told
-    ensures { result ≡ seconds_told (draft_pass (drafter_of kind p q x y z) batch (rates_of peak bw kv_delta) loaded.now) }
+    ensures { result ≡ float_told (draft_pass (drafter_of kind p q x y z) batch (rates_of peak bw kv_delta) loaded.now) }
 {
     exported_costs::drafts::speculative_pass_seconds(
         kind, p, q, x, y, z, batch, peak, bw, kv_delta, loaded,
@@ -107,7 +107,7 @@ pub extern "C" fn speculative_ragged_seconds(
     verify_c: f64,
     loaded: &[f64],
 ) -> Told
-    ensures { result ≡ seconds_told (draft_ragged (drafter_of kind p q x y z) widths.now (rates_of peak bw kv_delta) verify_c loaded.now) }
+    ensures { result ≡ float_told (draft_ragged (drafter_of kind p q x y z) widths.now (rates_of peak bw kv_delta) verify_c loaded.now) }
 {
     exported_costs::drafts::speculative_ragged_seconds(
         kind, p, q, x, y, z, widths, peak, bw, kv_delta, verify_c, loaded,

@@ -2,14 +2,14 @@
 ghost use Rattle.std.specs.Prelude.{◌≡◌};
 ghost use Rattle.bank.specs.Acceptance.{expected_accepted};
 ghost use Rattle.cost_lookup.specs.Entry.{table_refusal, step_time_at, step_time_frac_at, has_draft_at, batch_range_at, max_batch_at, price_curve_at};
-ghost use Rattle.exported_costs.specs.Answers.{entry_told, time_told, measured_told, range_told, batch_told, price_told};
+ghost use Rattle.exported_costs.specs.Answers.{float_told, time_told, measured_told, range_told, batch_told, price_told};
 
 use exported::Told;
 
 // `first` is the value.
 #[unsafe(no_mangle)]
 pub extern "C" fn bank_expected_accepted(curve: &[f64], depth: u32, gamma: u32) -> Told
-    ensures { result ≡ entry_told (expected_accepted curve.now depth gamma) }
+    ensures { result ≡ float_told (expected_accepted curve.now depth gamma) }
 {
     exported_costs::lookups::bank_expected_accepted(curve, depth, gamma)
 }

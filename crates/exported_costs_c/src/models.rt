@@ -2,7 +2,7 @@
 ghost use Rattle.std.specs.Prelude.{◌≡◌};
 ghost use Rattle.acceptance.specs.Acceptance.{a_d, model_refusal, expected_accepted, sample_accepted};
 ghost use Rattle.exported_costs.specs.Asked.{model_of};
-ghost use Rattle.exported_costs.specs.Answers.{value_told, sample_told};
+ghost use Rattle.exported_costs.specs.Answers.{float_told, sample_told};
 
 use exported::Told;
 
@@ -30,7 +30,7 @@ pub extern "C" fn acceptance_expected_accepted(
     positions: &[f64],
     gamma: u32,
 ) -> Told
-    ensures { result ≡ value_told (expected_accepted (model_of model alpha) positions.now gamma) }
+    ensures { result ≡ float_told (expected_accepted (model_of model alpha) positions.now gamma) }
 {
     exported_costs::models::acceptance_expected_accepted(model, alpha, positions, gamma)
 }
