@@ -5,24 +5,21 @@ use speculative::drafter::{DrafterCost, Rates};
 
 // The drafter whose words come first.
 pub fn drafter_of(input: &[u64]) -> DrafterCost {
-    let kind = words::at(input, 0);
-    if kind == 0 {
-        return DrafterCost::Fraction {
+    match words::at(input, 0) {
+        0 => DrafterCost::Fraction {
             frac: words::float_at(input, 1),
-        };
-    }
-    if kind == 1 {
-        return DrafterCost::Autoregressive {
+        },
+        1 => DrafterCost::Autoregressive {
             dense_params: words::float_at(input, 1),
             expert_params: words::float_at(input, 2),
             num_experts: words::whole_at(input, 3),
             experts_per_tok: words::whole_at(input, 4),
             shared_experts: words::whole_at(input, 5),
-        };
-    }
-    DrafterCost::BlockParallel {
-        params: words::float_at(input, 1),
-        block: words::whole_at(input, 3),
+        },
+        _ => DrafterCost::BlockParallel {
+            params: words::float_at(input, 1),
+            block: words::whole_at(input, 3),
+        },
     }
 }
 

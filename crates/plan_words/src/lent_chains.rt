@@ -31,21 +31,16 @@ pub fn fill(input: &[u64], chains: &mut [f64]) -> usize
 {
     let count = words::least_at(input, SLOTS, chains.len());
     let mut taken = 0u64;
-    let mut k = 0usize;
-    while k < count {
+    for k in 0..count {
         chains[k] = float::of_bits(slot(input, k, taken));
         taken = further(input, k, taken);
-        k += 1;
     }
     count
 }
 
 // Whether the rows say what a slot of the chains holds.
 fn is_given(input: &[u64], k: usize) -> bool {
-    if words::at(input, ROWS) == 0 {
-        return false;
-    }
-    ((k % 64) as u64) < words::at(input, GIVEN)
+    words::at(input, ROWS) != 0 && ((k % 64) as u64) < words::at(input, GIVEN)
 }
 
 // The bits of a slot of the chains: those of the rows behind as many as were taken, or a NaN.

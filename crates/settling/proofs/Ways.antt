@@ -11,8 +11,11 @@ use lib.ListN.{length, take, length-take}
 use lib.Ieee.{Float}
 use Rattle.laws.proofs.Both.{both}
 use Rattle.float.specs.Floats.{f0}
-use Rattle.refusals.specs.Refusals.{first_of}
-use Rattle.refusals.proofs.First.{first_zero}
+use Rattle.std.specs.Prelude.{Ok, Err}
+use Rattle.refusals.specs.declared.Refusal.{Refusal}
+use Rattle.refusals.specs.declared.Refusal.TheVariants.{Size, Input, ShortBuffer}
+use Rattle.refusals.specs.Refusals.{Judgement, passed_if, number_of}
+use Rattle.refusals.proofs.First.{refused_is_no_pass, both_pass}
 use Rattle.cost_rows.specs.Table.{Row}
 use Rattle.cost_rows.specs.Order.{ordered}
 use Rattle.cost_rows.specs.Lawful.{all_in_range, lawful}
@@ -20,17 +23,16 @@ use Rattle.step_times.specs.Prices.{prices}
 use Rattle.goodput.specs.Curve.{in_force}
 use Rattle.goodput.specs.declared.curve.Source.{Source}
 use Rattle.goodput.specs.declared.curve.Source.TheVariants.{Roofline, Table}
-use Rattle.switch_settings.specs.Switch.{switch_refusal}
+use Rattle.switch_settings.specs.Switch.{switch_judged}
 use Rattle.switching.specs.Deciding.{candidate_slots, most_width}
 use Rattle.switching.specs.declared.inner.Candidates.{Candidates}
 use Rattle.switching.proofs.Slots.{slots_front, slots_len}
 use Rattle.switching.proofs.Widths.{candidates_rise}
 use Rattle.settings.specs.declared.Settings.{Settings}
 use Rattle.asked_rooms.specs.declared.Ask.{Ask}
-use Rattle.asked_rooms.specs.Sizes.{bank_fits, table_fits, sizes_refusal}
+use Rattle.asked_rooms.specs.Sizes.{bank_fits, table_fits, sizes_judged}
 use Rattle.asked_rooms.specs.Rooms.{price_rooms}
 use Rattle.settings.proofs.Cases.{capped_le}
-use Rattle.asked_rooms.proofs.Tests.{passes}
 use Rattle.asked_values.specs.Columns.{columns_fit}
 use Rattle.asked_values.specs.Values.{prices_valued}
 use Rattle.width_way.specs.Way.{settled}
@@ -38,35 +40,18 @@ use Rattle.width_way.specs.Indices.{Ready}
 use Rattle.width_way.specs.declared.Settling.{Settling}
 use Rattle.width_way.specs.declared.Settling.TheVariants.{Refused}
 use Rattle.settling.specs.Measured.{Tabled, measured_by}
-use Rattle.settling.specs.Settling.{PricesLent, table_in, depth_in, curve_in, candidates_in, most_walks, lengths_in, rooms_in, valued_in, settles_refusal, settles_unless, settles}
+use Rattle.settling.specs.Settling.{PricesLent, table_in, depth_in, curve_in, candidates_in, most_walks, lengths_in, rooms_in, valued_in, settles_judged, settles_unless, settles}
 
--- ---- the rooms, and the values; g is the depth that plans may draft to
-module _ (s : Settings) (a : Ask) (l : PricesLent) (g : ℕ) (e : g ≡ depth_in s a) where
-  pub rooms_short : (room : ℕ) (p : Bool) → p ≡ price_rooms a.source g a.rows (lengths_in l) → p ≡ false → false ≡ rooms_in s a l room
-  rooms_short room p f h = rw (← e, ← f, h)
-
-  pub rooms_tested : (room : ℕ) (p : Bool) → p ≡ price_rooms a.source g a.rows (lengths_in l) → p ≡ true → leb most_walks room ≡ rooms_in s a l room
-  rooms_tested room p f h = rw (← e, ← f, h)
-
-  pub values_tested : (width : ℕ) (r : Bool) → width ≤ most_width → r ≡ prices_valued a.source g l.roofline (table_in a l) → r ≡ valued_in s a l width
-  values_tested width r h f = rw (← e, le-leb width most_width h) f
-
--- ---- 16, and then 15, where neither 12 nor 11 is given
-module _ (x y x' y' : ℕ) (p q : Bool) (e : x ≡ x') (f : y ≡ y') (h : x ≤ 0) (k : y ≤ 0) where
-  zeros : (x' ≡ 0) × (y' ≡ 0)
-  zeros = (omega arith, omega arith)
-
-  pub no_room : p ≡ false → 16 ≡ first_of x' (first_of y' (first_of (cond p 0 16) (cond q 0 15)))
-  no_room n = rw (zeros.0, zeros.1, n)
-
-  pub values_judged : (b : Bool) → p ≡ true → q ≡ b → cond b 0 15 ≡ first_of x' (first_of y' (first_of (cond p 0 16) (cond q 0 15)))
-  values_judged b n m = rw (zeros.0, zeros.1, n, m)
+-- ---- a test that is passed
+passes : (t : Bool) (r : Refusal) → passed_if t r ≡ Ok tt → t ≡ true
+passes true r e = refl
+passes false r e = refused_is_no_pass r e
 
 -- ---- of the sizes
-module _ (s : Settings) (a : Ask) (e : sizes_refusal s.model s.gamma 0 a.depth 0 a.source a.rows ≡ 0) where
+module _ (s : Settings) (a : Ask) (e : sizes_judged s.model s.gamma 0 a.depth 0 a.source a.rows ≡ Ok tt) where
   sized : ((leb s.gamma 64 && leb 0 1024) ≡ true) × ((bank_fits s.model a.depth 0 && table_fits a.source a.rows) ≡ true)
-  unfolding sizes_refusal
-  sized = both (leb s.gamma 64 && leb 0 1024) (bank_fits s.model a.depth 0 && table_fits a.source a.rows) (passes _ 11 (omega arith) e)
+  unfolding sizes_judged
+  sized = both (leb s.gamma 64 && leb 0 1024) (bank_fits s.model a.depth 0 && table_fits a.source a.rows) (passes _ Size e)
 
   pub depth_small : depth_in s a ≤ 64
   depth_small =
@@ -90,14 +75,14 @@ unfolding lawful
 lawful_ordered t h = (both (all_in_range t) (ordered t) h).1
 
 -- ---- a question that is not refused
-module _ (s : Settings) (a : Ask) (l : PricesLent) (width room : ℕ) (e : settles_refusal s a l width room ≡ 0) where
-  passed : (sizes_refusal s.model s.gamma 0 a.depth 0 a.source a.rows ≡ 0) × ((rooms_in s a l room ≡ true) × (valued_in s a l width ≡ true))
-  unfolding settles_refusal
+module _ (s : Settings) (a : Ask) (l : PricesLent) (width room : ℕ) (e : settles_judged s a l width room ≡ Ok tt) where
+  passed : (sizes_judged s.model s.gamma 0 a.depth 0 a.source a.rows ≡ Ok tt) × ((rooms_in s a l room ≡ true) × (valued_in s a l width ≡ true))
+  unfolding settles_judged
   passed =
-      let p = first_zero (switch_refusal s.switch) _ e in
-      let q = first_zero (sizes_refusal s.model s.gamma 0 a.depth 0 a.source a.rows) _ p.1 in
-      let r = first_zero (cond (rooms_in s a l room) 0 16) _ q.1 in
-      (q.0, (passes _ 16 (omega arith) r.0, passes _ 15 (omega arith) r.1))
+      let p = both_pass (switch_judged s.switch) _ e in
+      let q = both_pass (sizes_judged s.model s.gamma 0 a.depth 0 a.source a.rows) _ p.1 in
+      let r = both_pass (passed_if (rooms_in s a l room) ShortBuffer) _ q.1 in
+      (q.0, (passes _ ShortBuffer r.0, passes _ Input r.1))
 
   pub shallow : depth_in s a ≤ 64
   shallow = depth_small s a passed.0
@@ -150,19 +135,14 @@ module _ (s : Settings) (a : Ask) (l : PricesLent) where
       record { few = omega (arith, n, m, k); rising = rw (slots_front (curve_in s a l) c e) (candidates_rise 0 (curve_in s a l)); roomy = room }
 
 -- ---- the answer
-module _ (s : Settings) (a : Ask) (l : PricesLent) (width target : ℕ) (ws : List ℕ) (refusal : ℕ) (e : refusal ≡ settles_refusal s a l width (length ws)) where
-  pub refused : 0 < refusal → ◌≡◌ {A = Settling × List ℕ} (Refused refusal, ws) (settles s a l width target ws)
+module _ (s : Settings) (a : Ask) (l : PricesLent) (width target : ℕ) (ws : List ℕ) where
+  pub refused : (refusal : Refusal) → settles_judged s a l width (length ws) ≡ Err refusal → ◌≡◌ {A = Settling × List ℕ} (Refused (number_of refusal), ws) (settles s a l width target ws)
   unfolding settles
-  refused h = go refusal h ∙ ap (λ (n : ℕ). settles_unless n (settled (candidates_in s a l) width target s.switch ws) ws) e
-    where
-      go : (n : ℕ) → 0 < n → ◌≡◌ {A = Settling × List ℕ} (Refused n, ws) (settles_unless n (settled (candidates_in s a l) width target s.switch ws) ws)
-      go zero k = absurd (not-suc-le-zero k)
-      go (suc n) k = refl
+  refused refusal e = sym (ap (λ (j : Judgement). settles_unless j (settled (candidates_in s a l) width target s.switch ws) ws) e)
 
-  pub answered : (c : Candidates) (r : Settling) (out : List ℕ) → refusal ≤ 0 → c ≡ candidate_slots (curve_in s a l)
+  pub answered : (c : Candidates) (r : Settling) (out : List ℕ) → settles_judged s a l width (length ws) ≡ Ok tt → c ≡ candidate_slots (curve_in s a l)
       → (r, out) ≡ settled (take c.len c.list) width target s.switch ws → (r, out) ≡ settles s a l width target ws
   unfolding settles
-  answered c r out h f g =
-      let z : settles_refusal s a l width (length ws) ≡ 0 = omega arith in
+  answered c r out e f g =
       g ∙ ap (λ (m : List ℕ). settled m width target s.switch ws) (slots_front (curve_in s a l) c f)
-      ∙ sym (ap (λ (n : ℕ). settles_unless n (settled (candidates_in s a l) width target s.switch ws) ws) z)
+      ∙ sym (ap (λ (j : Judgement). settles_unless j (settled (candidates_in s a l) width target s.switch ws) ws) e)

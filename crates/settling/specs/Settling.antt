@@ -1,17 +1,18 @@
 -- How long until a worker's width settles, by the settings and the prices of its GatedAggregate plans: what is refused, and the answer. Assumes nothing.
-use Rattle.std.specs.Prelude.{ℕ, zero, suc, Bool, ◌&&◌, cond, List, leb, length, Float}
+use Rattle.std.specs.Prelude.{ℕ, Bool, ◌&&◌, List, leb, length, Float, Ok, Err}
 use Rattle.float.specs.Floats.{f0}
-use Rattle.refusals.specs.Refusals.{first_of}
+use Rattle.refusals.specs.declared.Refusal.TheVariants.{Input, ShortBuffer}
+use Rattle.refusals.specs.Refusals.{Judgement, passed_if, and_then, number_of, number_in}
 use Rattle.cost_rows.specs.Table.{Row, zip}
 use Rattle.step_times.specs.Prices.{prices}
 use Rattle.goodput.specs.Curve.{in_force}
-use Rattle.switch_settings.specs.Switch.{switch_refusal}
+use Rattle.switch_settings.specs.Switch.{switch_judged}
 use Rattle.switching.specs.Deciding.{candidates_of, most_width}
 use Rattle.settings.specs.Settings.{capped_by}
 use Rattle.settings.specs.declared.Settings.{Settings}
 use Rattle.asked_rooms.specs.declared.Ask.{Ask}
 use Rattle.asked_rooms.specs.declared.Lengths.{Lengths}
-use Rattle.asked_rooms.specs.Sizes.{sizes_refusal}
+use Rattle.asked_rooms.specs.Sizes.{sizes_judged}
 use Rattle.asked_rooms.specs.Rooms.{price_rooms}
 use Rattle.asked_values.specs.Values.{prices_valued}
 use Rattle.width_way.specs.Way.{settled}
@@ -68,18 +69,22 @@ rooms_in s a l room = price_rooms a.source (depth_in s a) a.rows (lengths_in l) 
 abbrev pub valued_in : Settings → Ask → PricesLent → ℕ → Bool
 valued_in s a l width = leb width most_width && prices_valued a.source (depth_in s a) l.roofline (table_in a l)
 
--- 12, then 11, then 16, then 15; no sequences and no rounds are asked for
-unfoldable pub settles_refusal : Settings → Ask → PricesLent → ℕ → ℕ → ℕ
-settles_refusal s a l width room =
-    first_of (switch_refusal s.switch)
-    (first_of (sizes_refusal s.model s.gamma 0 a.depth 0 a.source a.rows)
-    (first_of (cond (rooms_in s a l room) 0 16) (cond (valued_in s a l width) 0 15)))
+-- the switch settings, the sizes, the rooms, then the values; no sequences and no rounds are asked for
+unfoldable pub settles_judged : Settings → Ask → PricesLent → ℕ → ℕ → Judgement
+settles_judged s a l width room =
+    and_then (switch_judged s.switch)
+    (and_then (sizes_judged s.model s.gamma 0 a.depth 0 a.source a.rows)
+    (and_then (passed_if (rooms_in s a l room) ShortBuffer) (passed_if (valued_in s a l width) Input)))
+
+-- its number, 0 where it passes
+abbrev pub settles_refusal : Settings → Ask → PricesLent → ℕ → ℕ → ℕ
+settles_refusal s a l width room = number_in (settles_judged s a l width room)
 
 -- ---- the answer, and the buffer at exit; a refusal keeps it
-abbrev pub settles_unless : ℕ → Settling × List ℕ → List ℕ → Settling × List ℕ
-settles_unless zero answer widths = answer
-settles_unless (suc refusal) answer widths = (Refused (suc refusal), widths)
+abbrev pub settles_unless : Judgement → Settling × List ℕ → List ℕ → Settling × List ℕ
+settles_unless (Ok passed) answer widths = answer
+settles_unless (Err refusal) answer widths = (Refused (number_of refusal), widths)
 
 unfoldable pub settles : Settings → Ask → PricesLent → ℕ → ℕ → List ℕ → Settling × List ℕ
 settles s a l width target widths =
-    settles_unless (settles_refusal s a l width (length widths)) (settled (candidates_in s a l) width target s.switch widths) widths
+    settles_unless (settles_judged s a l width (length widths)) (settled (candidates_in s a l) width target s.switch widths) widths

@@ -1,10 +1,11 @@
-// What is refused of the question how long a width takes to settle: 12, 11, 16, then 15.
+// What is refused of the question how long a width takes to settle.
 ghost use Rattle.std.specs.Prelude.{◌≡◌, true};
 ghost use Rattle.asked_values.specs.Columns.{columns_fit};
-ghost use Rattle.settling.specs.Settling.{depth_in, rooms_in, valued_in, settles_refusal};
+ghost use Rattle.settling.specs.Settling.{depth_in, rooms_in, valued_in, settles_judged};
 
 use asked_rooms::{Ask, Lengths, rooms, sizes};
 use asked_values::inner;
+use refusals::Refusal;
 use settings::Settings;
 
 // The largest width, and the most walks.
@@ -47,11 +48,7 @@ fn are_roomy(
     };
     let source = ask.source;
     let depth = depth_in(settings, ask) as usize;
-    if rooms::price_rooms(source, depth, ask.rows, lengths) {
-        MOST_WALKS <= room
-    } else {
-        false
-    }
+    rooms::price_rooms(source, depth, ask.rows, lengths) && MOST_WALKS <= room
 }
 
 // Whether the width and the prices are in range.
@@ -67,16 +64,15 @@ fn are_valued(
     requires { columns_fit ask.source ask.rows depths.now batches.now seconds.now ≡ true }
     ensures { result ≡ valued_in settings ask (record { roofline = roofline.now; depths = depths.now; batches = batches.now; seconds = seconds.now }) width }
 {
-    if MOST_WIDTH < width {
-        return false;
-    }
     let source = ask.source;
     let depth = depth_in(settings, ask) as usize;
-    inner::are_priced(source, depth, roofline, depths, batches, seconds, ask.rows)
+    width <= MOST_WIDTH
+        && inner::are_priced(source, depth, roofline, depths, batches, seconds, ask.rows)
 }
 
-// 12, 11, 16, then 15; else 0. `room` is how many widths there is room for.
-pub fn refusal_of(
+// The switch settings, the sizes, the rooms, then the values. `room` is how many widths there is room for.
+#[tactic(auto, unfolding(crate::specs::Settling::settles_judged))]
+pub fn judge(
     settings: Settings,
     ask: Ask,
     roofline: &[f64],
@@ -85,26 +81,25 @@ pub fn refusal_of(
     seconds: &[f64],
     width: u32,
     room: usize,
-) -> u64
-    ensures { result ≡ settles_refusal settings ask (record { roofline = roofline.now; depths = depths.now; batches = batches.now; seconds = seconds.now }) width room }
+) -> Result<(), Refusal>
+    ensures { result ≡ settles_judged settings ask (record { roofline = roofline.now; depths = depths.now; batches = batches.now; seconds = seconds.now }) width room }
 {
-    let switch = settings.switch;
-    let of_switch = switch_settings::switch_refusal(switch);
-    if 0 < of_switch {
-        return of_switch;
-    }
-    let model = settings.model;
-    let source = ask.source;
-    let of_sizes = sizes::sizes_refusal(model, settings.gamma, 0, ask.depth, 0, source, ask.rows);
-    if 0 < of_sizes {
-        return of_sizes;
-    }
+    switch_settings::judge_switch(settings.switch)?;
+    sizes::judge_sizes(
+        settings.model,
+        settings.gamma,
+        0,
+        ask.depth,
+        0,
+        ask.source,
+        ask.rows,
+    )?;
     if !are_roomy(settings, ask, roofline, depths, batches, seconds, room) {
-        return 16;
+        return Err(Refusal::ShortBuffer);
     }
     if are_valued(settings, ask, roofline, depths, batches, seconds, width) {
-        0
+        Ok(())
     } else {
-        15
+        Err(Refusal::Input)
     }
 }

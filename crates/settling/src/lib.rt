@@ -27,22 +27,16 @@ pub fn settles(
 ) -> Settling
     ensures { (result, widths.new) ≡ settles settings ask (record { roofline = roofline.now; depths = depths.now; batches = batches.now; seconds = seconds.now }) width target widths.old }
 {
-    let refusal = judging::refusal_of(
-        settings,
-        ask,
-        roofline,
-        depths,
-        batches,
-        seconds,
-        width,
-        widths.len(),
-    );
-    if 0 < refusal {
-        return Settling::Refused(refusal);
+    let room = widths.len();
+    match judging::judge(
+        settings, ask, roofline, depths, batches, seconds, width, room,
+    ) {
+        Ok(()) => {
+            let found = measuring::candidates(settings, ask, roofline, depths, batches, seconds);
+            let list = found.list;
+            let len = found.len;
+            width_way::settled(&list[..len], width, target, settings.switch, widths)
+        }
+        Err(refusal) => Settling::Refused(refusal.number()),
     }
-    let found = measuring::candidates(settings, ask, roofline, depths, batches, seconds);
-    let list = found.list;
-    let len = found.len;
-    let switch = settings.switch;
-    width_way::settled(&list[..len], width, target, switch, widths)
 }

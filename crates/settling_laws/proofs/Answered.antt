@@ -29,7 +29,9 @@ use Rattle.planner_laws.specs.Standing.{Standing, given, step, after, is_plan, a
 use Rattle.width_way.specs.Way.{is_candidate, stands_still, away_from, walks_for, pause, rounds_for, way, on_way, settled}
 use Rattle.width_way.specs.declared.Settling.{Settling}
 use Rattle.width_way.specs.declared.Settling.TheVariants.{Within, NoStep, NoCandidate, AtOnce}
-use Rattle.settling.specs.Settling.{PricesLent, candidates_in, settles, settles_unless, settles_refusal}
+use Rattle.std.specs.Prelude.{Ok, Err}
+use Rattle.refusals.specs.Refusals.{Judgement}
+use Rattle.settling.specs.Settling.{PricesLent, candidates_in, settles, settles_unless, settles_judged}
 use Rattle.settling_laws.specs.Record.{Alike, after_all}
 use Rattle.settling_laws.specs.Rounds.{is_aggregate, is_round, rounds_of, Still, AsBefore, EachRound, Premises}
 use Rattle.settling_laws.specs.Asked.{prices_of, AskedAlike, Says}
@@ -94,11 +96,11 @@ module _ (s : Settings) (a : Ask) (p : PricesLent) (width target : ℕ) (widths 
   -- THE ANSWER SAYS SO
   pub says : Says s a p target width widths answer.1 answer.0
   unfolding settles
-  says = go (settles_refusal s a p width (length widths))
+  says = go (settles_judged s a p width (length widths))
     where
-      go : (n : ℕ) → let said = settles_unless n (settled candidates width target s.switch widths) widths in Says s a p target width widths said.1 said.0
-      go zero = settled_says
-      go (suc n) = refl
+      go : (j : Judgement) → let said = settles_unless j (settled candidates width target s.switch widths) widths in Says s a p target width widths said.1 said.0
+      go (Ok tt) = settled_says
+      go (Err refusal) = refl
 
   -- ---- it settles
   module _ (rounds walks : ℕ) (e : answer.0 ≡ Within rounds walks) where
