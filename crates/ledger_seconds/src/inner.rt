@@ -4,10 +4,10 @@ ghost use Rattle.ledger_rows.specs.Words.{searched};
 ghost use Rattle.ledger_rows.specs.Layout.{room, second_wide, seconds_most, seconds_held, second_at, steps_in};
 ghost use Rattle.ledger_seconds.specs.Seconds.{earlier_second, that_second, second_place, second_raised, second_inserted, step_added, second_lowered, step_removed};
 
-use ledger_rows::inner;
 use ledger_rows::layout::{
     COMMITTED, DRAFTS, Place, SECOND, SECONDS, SECONDS_MOST, SEQUENCES, STEPS, Step,
 };
+use ledger_rows::{inner, rows};
 
 // The number of seconds held: at most SECONDS_MOST, whatever the word says.
 pub fn held(words: &[u64]) -> usize
@@ -114,13 +114,8 @@ fn insert(words: &mut [u64], row: usize, rows: usize, step: Step)
     requires { (row ≤ rows) × (room ≤ length words.old) }
     ensures { words.new ≡ second_inserted words.old row rows step }
 {
-    if rows < SECONDS_MOST {
-        let from = SECONDS + SECOND * row;
-        let end = SECONDS + SECOND * rows;
-        let new = [step.second, step.drafts, step.sequences, step.committed, 1];
-        inner::put_in(words, from, end, &new);
-        words[0] = (rows + 1) as u64;
-    }
+    let new = [step.second, step.drafts, step.sequences, step.committed, 1];
+    rows::insert::<0, SECONDS, SECONDS_MOST>(words, row, rows, &new);
 }
 
 // The sums of the step's second, whose place was found, with that step more; a second that is not held is put in there.
@@ -154,10 +149,7 @@ fn lower(words: &mut [u64], row: usize, rows: usize, step: Step)
         ];
         inner::put(words, at, &less);
     } else {
-        let end = SECONDS + SECOND * (rows - 1);
-        let free = [0u64; SECOND];
-        inner::take_out(words, at, end, &free);
-        words[0] = (rows - 1) as u64;
+        rows::take::<0, SECONDS, SECONDS_MOST>(words, row, rows);
     }
 }
 

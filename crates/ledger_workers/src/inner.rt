@@ -2,10 +2,10 @@
 ghost use Rattle.std.specs.Prelude.{◌≡◌, cond, false, ◌+◌, ◌≤◌, ◌<◌, ltb, length};
 ghost use Rattle.ledger_rows.specs.Words.{searched};
 ghost use Rattle.ledger_rows.specs.Layout.{room, worker_wide, workers_most, workers_held, worker_at};
-ghost use Rattle.ledger_workers.specs.Workers.{earlier_worker, that_worker, worker_place, worker_stored, worker_inserted, worker_put, worker_taken, worker_dropped, past_at, past_of};
+ghost use Rattle.ledger_workers.specs.Workers.{earlier_worker, that_worker, worker_place, worker_stored, worker_inserted, worker_put, worker_dropped, past_at, past_of};
 
-use ledger_rows::inner;
 use ledger_rows::layout::{Past, Place, WORKER, WORKERS, WORKERS_MOST};
+use ledger_rows::{inner, rows};
 
 // The number of workers held: at most WORKERS_MOST, whatever the word says.
 pub fn held(words: &[u64]) -> usize
@@ -128,13 +128,8 @@ fn insert(
     requires { (row ≤ rows) × (room ≤ length words.old) }
     ensures { words.new ≡ worker_inserted words.old row rows a b width rounds stall }
 {
-    if rows < WORKERS_MOST {
-        let from = WORKERS + WORKER * row;
-        let end = WORKERS + WORKER * rows;
-        let new = [a, b, width, rounds, stall];
-        inner::put_in(words, from, end, &new);
-        words[1] = (rows + 1) as u64;
-    }
+    let new = [a, b, width, rounds, stall];
+    rows::insert::<1, WORKERS, WORKERS_MOST>(words, row, rows, &new);
 }
 
 // A worker's record put in the place of the one that it has, or as its first.
@@ -151,27 +146,14 @@ pub fn put(words: &mut [u64], a: u64, b: u64, width: u64, rounds: u64, stall: u6
     }
 }
 
-// Row `row` of `rows` taken out.
-#[tactic(auto, unfolding(crate::specs::Workers::worker_taken))]
-fn take(words: &mut [u64], row: usize, rows: usize)
-    requires { (row < rows) × (rows ≤ workers_most) × (room ≤ length words.old) }
-    ensures { words.new ≡ worker_taken words.old row rows }
-{
-    let at = WORKERS + WORKER * row;
-    let end = WORKERS + WORKER * (rows - 1);
-    let free = [0u64; WORKER];
-    inner::take_out(words, at, end, &free);
-    words[1] = (rows - 1) as u64;
-}
-
 // A worker no longer held.
-#[tactic(auto, unfolding(crate::specs::Workers::worker_dropped))]
+#[tactic(auto, unfolding(crate::specs::Workers::worker_dropped, crate::specs::Workers::worker_taken))]
 pub fn drop_worker(words: &mut [u64], a: u64, b: u64)
     requires { room ≤ length words.old }
     ensures { words.new ≡ worker_dropped words.old a b }
 {
     let found = place(words, a, b);
     if found.known {
-        take(words, found.row, found.rows);
+        rows::take::<1, WORKERS, WORKERS_MOST>(words, found.row, found.rows);
     }
 }

@@ -7,4 +7,4 @@ pub take-requires : goal.take-requires
 take-requires c =
     let a = c.args in
     let p = c.place-found in
-    (worker_in a.words.now a.a a.b p.result p.ensures c.if-found.true, omega (arith, worker_rows a.words.now a.a a.b p.result p.ensures), c.requires)
+    (worker_in a.words.now a.a a.b p.result p.ensures c.if-found.true, omega (arith, worker_rows a.words.now a.a a.b p.result p.ensures), omega arith, omega arith)
