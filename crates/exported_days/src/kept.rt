@@ -13,26 +13,19 @@ use ledger_sums::answer::Sums;
 pub extern "C" fn ledger_sums_sums(storage: &[u64], row: u64, asked: u64) -> Told
     ensures { result ≡ sums_told asked (sums_of storage.now row) }
 {
-    let found = ledger_sums::sums(storage, row);
-    match found {
-        Sums::Of {
-            second,
-            drafts,
-            sequences,
-            committed,
-            steps,
-        } => Told {
+    match ledger_sums::sums(storage, row) {
+        Ok(Some(sums)) => Told {
             refusal: 0,
             first: 1,
-            second: sum_asked(asked, second, drafts, sequences, committed, steps),
+            second: sum_asked(asked, sums),
         },
-        Sums::Past => Told {
+        Ok(None) => Told {
             refusal: 0,
             first: 0,
             second: 0,
         },
-        Sums::Refused(number) => Told {
-            refusal: number,
+        Err(refusal) => Told {
+            refusal: refusal.number(),
             first: 0,
             second: 0,
         },
@@ -60,27 +53,14 @@ pub extern "C" fn day_clock_taken_back(clock: &mut [u64])
     day_clock::taken_back(clock)
 }
 
-fn sum_asked(
-    asked: u64,
-    second: u64,
-    drafts: u64,
-    sequences: u64,
-    committed: u64,
-    steps: u64,
-) -> u64
-    ensures { result ≡ sum_asked asked second drafts sequences committed steps }
+fn sum_asked(asked: u64, sums: Sums) -> u64
+    ensures { result ≡ sum_asked asked sums }
 {
-    if asked == 0 {
-        return second;
+    match asked {
+        0 => sums.second,
+        1 => sums.drafts,
+        2 => sums.sequences,
+        3 => sums.committed,
+        _ => sums.steps,
     }
-    if asked == 1 {
-        return drafts;
-    }
-    if asked == 2 {
-        return sequences;
-    }
-    if asked == 3 {
-        return committed;
-    }
-    steps
 }

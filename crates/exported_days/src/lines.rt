@@ -10,7 +10,7 @@ ghost use Rattle.exported.specs.Telling.{part_told};
 ghost use Rattle.exported.specs.Spelled.{whole_told, decimal_told};
 ghost use Rattle.exported_days.specs.Days.{judged_told};
 
-use day_shapes::Judged;
+use day_shapes::WrongField;
 use exported::Told;
 
 // `first` is the length of what stands before the comment, `second` its byte at `at`.
@@ -68,19 +68,19 @@ pub extern "C" fn day_fields_decimal_in(line: &[u8], place: usize) -> Told
     exported::decimal_told(day_fields::decimal_in(line, place))
 }
 
-fn judged_told(judged: Judged) -> Told
+fn judged_told(judged: Result<(), WrongField>) -> Told
     ensures { result ≡ judged_told judged }
 {
     match judged {
-        Judged::Right => Told {
+        Ok(()) => Told {
             refusal: 0,
             first: 0,
             second: 0,
         },
-        Judged::Wrong { field, expected } => Told {
-            refusal: expected,
+        Err(wrong) => Told {
+            refusal: wrong.expected.number(),
             first: 0,
-            second: field,
+            second: wrong.field,
         },
     }
 }

@@ -5,7 +5,7 @@ ghost use Rattle.day_paths.specs.Paths.{placed_beside};
 ghost use Rattle.exported.specs.Telling.{on_first};
 ghost use Rattle.exported_days.specs.Days.{listed_told};
 
-use day_lists::Listed;
+use day_lists::NoList;
 use exported::Told;
 
 // `first` is how many numbers there are, and `second` is 1 where they are too many for `out`; or `refusal` is what was expected, and `second` the
@@ -34,24 +34,24 @@ pub extern "C" fn day_paths_beside(day: &[u8], name: &[u8], out: &mut [u8]) -> u
     day_paths::beside(day, name, out)
 }
 
-fn listed_told(listed: Listed) -> Told
+fn listed_told(listed: Result<u64, NoList>) -> Told
     ensures { result ≡ listed_told listed }
 {
     match listed {
-        Listed::Count(count) => Told {
+        Ok(count) => Told {
             refusal: 0,
             first: count,
             second: 0,
         },
-        Listed::TooMany => Told {
+        Err(NoList::TooMany) => Told {
             refusal: 0,
             first: 0,
             second: 1,
         },
-        Listed::NoList { field, expected } => Told {
-            refusal: expected,
+        Err(NoList::Wrong(wrong)) => Told {
+            refusal: wrong.refusal.number(),
             first: 0,
-            second: field,
+            second: wrong.field,
         },
     }
 }

@@ -1,4 +1,5 @@
-// The names of a day file. Each answer is the number of a case, counted from 0 as the cases are declared.
+// The names of a day file. Each answer is the number of a case, counted from 0 as the cases are declared, and the next number where
+// there is none of the name.
 ghost use Rattle.std.specs.Prelude.{◌≡◌};
 ghost use Rattle.day_names.specs.Names.{command_of, policy_of, acceptance_of, drafter_of, prices_of, is_none};
 ghost use Rattle.exported_days.specs.Days.{command_number, policy_number, acceptance_number, drafter_number, prices_number};
@@ -10,25 +11,25 @@ pub extern "C" fn day_names_command_of(line: &[u8]) -> u64
     ensures { result ≡ command_number (command_of line.now) }
 {
     match day_names::command_of(line) {
-        Command::Nothing => 0,
-        Command::Gamma => 1,
-        Command::Policy => 2,
-        Command::Acceptance => 3,
-        Command::Drafter => 4,
-        Command::Switch => 5,
-        Command::Rates => 6,
-        Command::Roofline => 7,
-        Command::Table => 8,
-        Command::Loaded => 9,
-        Command::Prices => 10,
-        Command::Plan => 11,
-        Command::Collect => 12,
-        Command::Withdraw => 13,
-        Command::Series => 14,
-        Command::SeriesBits => 15,
-        Command::Day => 16,
-        Command::Settles => 17,
-        Command::Unknown => 18,
+        Some(Command::Nothing) => 0,
+        Some(Command::Gamma) => 1,
+        Some(Command::Policy) => 2,
+        Some(Command::Acceptance) => 3,
+        Some(Command::Drafter) => 4,
+        Some(Command::Switch) => 5,
+        Some(Command::Rates) => 6,
+        Some(Command::Roofline) => 7,
+        Some(Command::Table) => 8,
+        Some(Command::Loaded) => 9,
+        Some(Command::Prices) => 10,
+        Some(Command::Plan) => 11,
+        Some(Command::Collect) => 12,
+        Some(Command::Withdraw) => 13,
+        Some(Command::Series) => 14,
+        Some(Command::SeriesBits) => 15,
+        Some(Command::Day) => 16,
+        Some(Command::Settles) => 17,
+        None => 18,
     }
 }
 
@@ -37,11 +38,11 @@ pub extern "C" fn day_names_policy_of(name: &[u8]) -> u64
     ensures { result ≡ policy_number (policy_of name.now) }
 {
     match day_names::policy_of(name) {
-        PolicyName::Fixed => 0,
-        PolicyName::GoodputBudget => 1,
-        PolicyName::GatedBudget => 2,
-        PolicyName::GatedAggregate => 3,
-        PolicyName::Unknown => 4,
+        Some(PolicyName::Fixed) => 0,
+        Some(PolicyName::GoodputBudget) => 1,
+        Some(PolicyName::GatedBudget) => 2,
+        Some(PolicyName::GatedAggregate) => 3,
+        None => 4,
     }
 }
 
@@ -50,10 +51,10 @@ pub extern "C" fn day_names_acceptance_of(name: &[u8]) -> u64
     ensures { result ≡ acceptance_number (acceptance_of name.now) }
 {
     match day_names::acceptance_of(name) {
-        AcceptanceName::Constant => 0,
-        AcceptanceName::PerPosition => 1,
-        AcceptanceName::Trace => 2,
-        AcceptanceName::Unknown => 3,
+        Some(AcceptanceName::Constant) => 0,
+        Some(AcceptanceName::PerPosition) => 1,
+        Some(AcceptanceName::Trace) => 2,
+        None => 3,
     }
 }
 
@@ -62,11 +63,11 @@ pub extern "C" fn day_names_drafter_of(name: &[u8]) -> u64
     ensures { result ≡ drafter_number (drafter_of name.now) }
 {
     match day_names::drafter_of(name) {
-        DrafterName::Fraction => 0,
-        DrafterName::Autoregressive => 1,
-        DrafterName::BlockParallel => 2,
-        DrafterName::Absent => 3,
-        DrafterName::Unknown => 4,
+        Some(DrafterName::Fraction) => 0,
+        Some(DrafterName::Autoregressive) => 1,
+        Some(DrafterName::BlockParallel) => 2,
+        Some(DrafterName::Absent) => 3,
+        None => 4,
     }
 }
 
@@ -75,9 +76,9 @@ pub extern "C" fn day_names_prices_of(name: &[u8]) -> u64
     ensures { result ≡ prices_number (prices_of name.now) }
 {
     match day_names::prices_of(name) {
-        PricesName::Default => 0,
-        PricesName::Bridged => 1,
-        PricesName::Unknown => 2,
+        Some(PricesName::Default) => 0,
+        Some(PricesName::Bridged) => 1,
+        None => 2,
     }
 }
 
