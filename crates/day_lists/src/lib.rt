@@ -1,73 +1,54 @@
 // Lists of numbers in a day file's line: all its fields from a place on. The list is judged first, and read only where all of it is right and fits.
 #![tactic(auto)]
 
-ghost use Rattle.std.specs.Prelude.{◌≡◌, ◌-◌, ◌≤◌};
-ghost use Rattle.day_lists.specs.Lists.{listed_as, decimals_listed, wholes_listed};
+ghost use Rattle.std.specs.Prelude.{◌≡◌};
+ghost use Rattle.day_lists.specs.Lists.{list_in, listed_by, decimals_listed, wholes_listed};
 
-use day_walks::{Wrong, inner};
+use day_walks::inner::ListNumber;
+use day_walks::{WrongNumber, inner};
 
-// How many numbers were read; that there is no room for them; or the first field that is no such number, counted from the line's first as 0,
-// and what is expected there: 5 a whole number, 6 a decimal, 7 a decimal of fewer digits.
+// Why no list is read: there is no room for its numbers, or a field is no such number, counted from the line's first as 0.
 #[derive(Clone, Copy)]
-pub enum Listed {
-    Count(u64),
+pub enum NoList {
     TooMany,
-    NoList { field: u64, expected: u64 },
+    Wrong(WrongNumber),
 }
 
-// The decimals from the field at `from` on, at the front of `out`.
-pub fn read_decimals(line: &[u8], from: usize, out: &mut [f64]) -> Listed
+// The decimals from the field at `from` on, at the front of `out`: how many there are.
+#[tactic(auto, unfolding(crate::specs::Lists::decimals_listed))]
+pub fn read_decimals(line: &[u8], from: usize, out: &mut [f64]) -> Result<u64, NoList>
     ensures { (result, out.new) ≡ decimals_listed line.now from out.old }
 {
-    let told = day_line::uncommented(line);
-    if text::field_count(told) <= from {
-        return Listed::Count(0);
-    }
-    let list = inner::rest_from(told, from);
-    let place = from as u64;
-    match answer_for(inner::decimals_judged(list, place), place, out.len() as u64) {
-        Listed::Count(count) => {
-            inner::fill_decimals(list, out);
-            Listed::Count(count)
-        }
-        Listed::TooMany => Listed::TooMany,
-        Listed::NoList { field, expected } => Listed::NoList { field, expected },
-    }
+    read_list(line, from, out)
 }
 
-// The whole numbers from the field at `from` on, at the front of `out`.
-pub fn read_wholes(line: &[u8], from: usize, out: &mut [u32]) -> Listed
+// The whole numbers from the field at `from` on, at the front of `out`: how many there are.
+#[tactic(auto, unfolding(crate::specs::Lists::wholes_listed))]
+pub fn read_wholes(line: &[u8], from: usize, out: &mut [u32]) -> Result<u64, NoList>
     ensures { (result, out.new) ≡ wholes_listed line.now from out.old }
 {
+    read_list(line, from, out)
+}
+
+// The numbers from the field at `from` on.
+fn read_list<T: ListNumber>(line: &[u8], from: usize, out: &mut [T]) -> Result<u64, NoList>
+    ensures { (result, out.new) ≡ listed_by T.judged T.read_of from (list_in line.now from) out.old }
+{
     let told = day_line::uncommented(line);
     if text::field_count(told) <= from {
-        return Listed::Count(0);
+        return Ok(0);
     }
     let list = inner::rest_from(told, from);
     let place = from as u64;
-    match answer_for(inner::wholes_judged(list, place), place, out.len() as u64) {
-        Listed::Count(count) => {
-            inner::fill_wholes(list, out);
-            Listed::Count(count)
-        }
-        Listed::TooMany => Listed::TooMany,
-        Listed::NoList { field, expected } => Listed::NoList { field, expected },
-    }
-}
-
-// What is answered for a list whose first field has the place `from`, once it is judged.
-fn answer_for(found: Wrong, from: u64, room: u64) -> Listed
-    requires { from ≤ found.field }
-    ensures { result ≡ listed_as found (found.field - from) room }
-{
-    let field = found.field;
-    let expected = found.expected;
-    if expected != 0 {
-        return Listed::NoList { field, expected };
-    }
-    let count = field - from;
+    let end = match inner::judge_list::<T>(list, place) {
+        Ok(end) => end,
+        Err(wrong) => return Err(NoList::Wrong(wrong)),
+    };
+    let count = end - place;
+    let room = out.len() as u64;
     if room < count {
-        return Listed::TooMany;
+        return Err(NoList::TooMany);
     }
-    Listed::Count(count)
+    inner::fill_list(list, out);
+    Ok(count)
 }
