@@ -4,16 +4,18 @@ use mathlib.Core.Bool.{Bool, true, false, ◌&&◌, ◌||◌, cond}
 use mathlib.Core.List.{List}
 use Prim.Native.Nat.{ℕ, ◌+◌, ◌*◌, ◌≤◌, ◌<◌}
 use native.Mathlib.Omega.{arith}
-use borrow.Author.Tests.{leb-true, lt-ltb, eqb-true, eq-eqb}
+use borrow.Author.Tests.{leb-true, lt-ltb, eq-eqb}
 use lib.Dec.{leb, eqb}
 use lib.ListN.{length, take}
 use lib.Ieee.{Float}
-use Rattle.refusals.proofs.First.{first_zero}
+use Rattle.std.specs.Prelude.{Ok, is_ok}
+use Rattle.refusals.specs.declared.Refusal.TheVariants.{Size, Input, ShortBuffer}
+use Rattle.refusals.proofs.First.{both_pass, ok_passed, passes}
 use Rattle.laws.proofs.Both.{both}
 use Rattle.float.proofs.Classes.{clash}
 use Rattle.acceptance.specs.declared.AcceptanceModel.{AcceptanceModel}
 use Rattle.acceptance.specs.declared.AcceptanceModel.TheVariants.{Trace}
-use Rattle.speculative.specs.Drafter.{rates_refusal, loaded_refusal}
+use Rattle.speculative.specs.Drafter.{rates_judged, loaded_judged}
 use Rattle.speculative.specs.declared.drafter.DrafterCost.{DrafterCost}
 use Rattle.speculative.specs.declared.drafter.DrafterCost.TheVariants.{Fraction, Autoregressive, BlockParallel}
 use Rattle.goodput.specs.declared.curve.Source.{Source}
@@ -31,13 +33,13 @@ use Rattle.settings.specs.declared.Settings.{Settings}
 use Rattle.settings.specs.Settings.{gamma_under, gamma_in, uses_costs, uses_signals}
 use Rattle.asked_rooms.specs.declared.Ask.{Ask}
 use Rattle.asked_rooms.specs.declared.Lengths.{Lengths}
-use Rattle.asked_rooms.specs.Sizes.{bank_fits, table_fits, sizes_refusal}
-use Rattle.asked_rooms.specs.Rooms.{own_rooms, price_rooms, loaded_room, cost_rooms, signal_rooms, bank_rooms, rooms_refusal}
+use Rattle.asked_rooms.specs.Sizes.{bank_fits, table_fits, sizes_judged}
+use Rattle.asked_rooms.specs.Rooms.{own_rooms, price_rooms, loaded_room, cost_rooms, signal_rooms, bank_rooms, rooms_judged}
 use Rattle.asking.specs.Values.{prices_valued, loaded_valued, curve_valued, held_of, policy_valued}
-use Rattle.asking.specs.Asked.{Lent, table_of, lengths_of, costs_valued, values_refusal, asked_refusal}
+use Rattle.asking.specs.Asked.{Lent, table_of, lengths_of, costs_valued, values_judged, asked_judged}
 use Rattle.asked_values.specs.Columns.{columns_fit}
 use Rattle.settings.proofs.Cases.{capped_le}
-use Rattle.asked_rooms.proofs.Tests.{used, passes}
+use Rattle.asked_rooms.proofs.Tests.{used}
 
 -- a test of a case that is known
 at_case : {A : Type 0} (f : A → Bool) (x y : A) → x ≡ y → f x ≡ true → f y ≡ true
@@ -64,23 +66,23 @@ pub gamma_in_le : (s : Settings) (depth : ℕ) → gamma_in s depth ≤ s.gamma
 gamma_in_le s depth = under_le s.policy s.model s.gamma depth
 
 -- ---- the sizes
-module _ (model : AcceptanceModel) (gamma n depth rounds : ℕ) (source : Source) (rows : ℕ) (e : sizes_refusal model gamma n depth rounds source rows ≡ 0) where
+module _ (model : AcceptanceModel) (gamma n depth rounds : ℕ) (source : Source) (rows : ℕ) (e : sizes_judged model gamma n depth rounds source rows ≡ Ok tt) where
   sized : ((leb gamma 64 ≡ true) × (leb n 1024 ≡ true)) × ((bank_fits model depth rounds ≡ true) × (table_fits source rows ≡ true))
-  unfolding sizes_refusal
+  unfolding sizes_judged
   sized =
-      let p = both (leb gamma 64 && leb n 1024) (bank_fits model depth rounds && table_fits source rows) (passes _ 11 (omega arith) e) in
+      let p = both (leb gamma 64 && leb n 1024) (bank_fits model depth rounds && table_fits source rows) (passes _ Size e) in
       (both (leb gamma 64) (leb n 1024) p.0, both (bank_fits model depth rounds) (table_fits source rows) p.1)
 
 -- ---- the lengths
-module _ (s : Settings) (a : Ask) (l : Lengths) (e : rooms_refusal s a l ≡ 0) where
+module _ (s : Settings) (a : Ask) (l : Lengths) (e : rooms_judged s a l ≡ Ok tt) where
   abbrev g : ℕ
   g = gamma_in s a.depth
 
   roomy : (own_rooms a.sequences l ≡ true) × ((cost_rooms s.policy s.drafter a.source g a.sequences a.rows l ≡ true) × (bank_rooms s.model s.policy g a.depth a.rounds l ≡ true))
-  unfolding rooms_refusal
+  unfolding rooms_judged
   roomy =
       let p = both (own_rooms a.sequences l) (cost_rooms s.policy s.drafter a.source g a.sequences a.rows l && bank_rooms s.model s.policy g a.depth a.rounds l)
-      (passes _ 16 (omega arith) e) in
+      (passes _ ShortBuffer e) in
       (p.0, both (cost_rooms s.policy s.drafter a.source g a.sequences a.rows l) (bank_rooms s.model s.policy g a.depth a.rounds l) p.1)
 
   pub rooms_storage : room ≤ l.storage
@@ -88,7 +90,7 @@ module _ (s : Settings) (a : Ask) (l : Lengths) (e : rooms_refusal s a l ≡ 0) 
 
 -- the columns, as the judge of the values leans on them
 pub columns_fit_lem : (s : Settings) (a : Ask) (l : Lengths) (d b : List ℕ) (x : List Float) → l.depths ≡ length d → l.batches ≡ length b → l.seconds ≡ length x
-    → sizes_refusal s.model s.gamma a.sequences a.depth a.rounds a.source a.rows ≡ 0 → rooms_refusal s a l ≡ 0
+    → sizes_judged s.model s.gamma a.sequences a.depth a.rounds a.source a.rows ≡ Ok tt → rooms_judged s a l ≡ Ok tt
     → cond (uses_costs s.policy) (columns_fit a.source a.rows d b x) true ≡ true
 columns_fit_lem s a l d b x p q r e f =
     go (uses_costs s.policy) a.source (sized s.model s.gamma a.sequences a.depth a.rounds a.source a.rows e).1.1 (roomy s a l f).1.0
@@ -102,7 +104,7 @@ columns_fit_lem s a l d b x p q r e f =
         (both (leb a.rows l.depths && (leb a.rows l.batches && leb a.rows l.seconds)) (loaded_room s.drafter a.sequences l) h).0
 
 -- ---- all of it
-module _ (s : Settings) (a : Ask) (l : Lent) (ws : List ℕ) (drafts commits : ℕ) (e : asked_refusal s a l ws drafts commits ≡ 0) where
+module _ (s : Settings) (a : Ask) (l : Lent) (ws : List ℕ) (drafts commits : ℕ) (e : asked_judged s a l ws drafts commits ≡ Ok tt) where
   abbrev ls : Lengths
   ls = lengths_of l (length ws) drafts commits
 
@@ -112,9 +114,9 @@ module _ (s : Settings) (a : Ask) (l : Lent) (ws : List ℕ) (drafts commits : �
   abbrev depth : ℕ
   depth = gamma_in s a.depth
 
-  parts : (sizes_refusal s.model s.gamma a.sequences a.depth a.rounds a.source a.rows ≡ 0) × ((rooms_refusal s a ls ≡ 0) × (values_refusal s a l past ≡ 0))
-  unfolding asked_refusal
-  parts = let p = first_zero _ _ e in (p.0, first_zero _ _ p.1)
+  parts : (sizes_judged s.model s.gamma a.sequences a.depth a.rounds a.source a.rows ≡ Ok tt) × ((rooms_judged s a ls ≡ Ok tt) × (values_judged s a l past ≡ Ok tt))
+  unfolding asked_judged
+  parts = let p = both_pass _ _ e in (p.0, both_pass _ _ p.1)
 
   sizes : ((leb s.gamma 64 ≡ true) × (leb a.sequences 1024 ≡ true)) × ((bank_fits s.model a.depth a.rounds ≡ true) × (table_fits a.source a.rows ≡ true))
   sizes = sized s.model s.gamma a.sequences a.depth a.rounds a.source a.rows parts.0
@@ -123,8 +125,8 @@ module _ (s : Settings) (a : Ask) (l : Lent) (ws : List ℕ) (drafts commits : �
   rooms = roomy s a ls parts.1.0
 
   values : (costs_valued s a l ≡ true) × (policy_valued s.policy s.model s.switch depth l.bank_curve_of past ≡ true)
-  unfolding values_refusal
-  values = both (costs_valued s a l) (policy_valued s.policy s.model s.switch depth l.bank_curve_of past) (passes _ 15 (omega arith) parts.1.1)
+  unfolding values_judged
+  values = both (costs_valued s a l) (policy_valued s.policy s.model s.switch depth l.bank_curve_of past) (passes _ Input parts.1.1)
 
   -- ---- of every plan
   pub gamma_small : s.gamma ≤ 64
@@ -203,20 +205,20 @@ module _ (s : Settings) (a : Ask) (l : Lent) (ws : List ℕ) (drafts commits : �
         both (price_rooms a.source depth a.rows ls) (loaded_room s.drafter a.sequences ls)
         (used (uses_costs s.policy) (price_rooms a.source depth a.rows ls && loaded_room s.drafter a.sequences ls) u rooms.1.0)
 
-    cost_values : (eqb (rates_refusal a.rates) 0 ≡ true) × ((prices_valued a.source depth l.roofline (table_of a l) ≡ true) × (loaded_valued s.drafter a.sequences l.loaded ≡ true))
+    cost_values : (is_ok (rates_judged a.rates) ≡ true) × ((prices_valued a.source depth l.roofline (table_of a l) ≡ true) × (loaded_valued s.drafter a.sequences l.loaded ≡ true))
     cost_values =
-        let h = used (uses_costs s.policy) (eqb (rates_refusal a.rates) 0 && (prices_valued a.source depth l.roofline (table_of a l) && loaded_valued s.drafter a.sequences l.loaded)) u values.0 in
-        let p = both (eqb (rates_refusal a.rates) 0) (prices_valued a.source depth l.roofline (table_of a l) && loaded_valued s.drafter a.sequences l.loaded) h in
+        let h = used (uses_costs s.policy) (is_ok (rates_judged a.rates) && (prices_valued a.source depth l.roofline (table_of a l) && loaded_valued s.drafter a.sequences l.loaded)) u values.0 in
+        let p = both (is_ok (rates_judged a.rates)) (prices_valued a.source depth l.roofline (table_of a l) && loaded_valued s.drafter a.sequences l.loaded) h in
         (p.0, both (prices_valued a.source depth l.roofline (table_of a l)) (loaded_valued s.drafter a.sequences l.loaded) p.1)
 
-    pub rates_valued : rates_refusal a.rates ≡ 0
-    rates_valued = eqb-true (rates_refusal a.rates) 0 cost_values.0
+    pub rates_valued : rates_judged a.rates ≡ Ok tt
+    rates_valued = ok_passed (rates_judged a.rates) cost_values.0
 
-    pub loaded_valued_lem : loaded_refusal s.drafter a.sequences l.loaded ≡ 0
-    unfolding loaded_refusal
+    pub loaded_valued_lem : loaded_judged s.drafter a.sequences l.loaded ≡ Ok tt
+    unfolding loaded_judged
     loaded_valued_lem = go s.drafter cost_rooms_lem.1 cost_values.1.1
       where
-        go : (d : DrafterCost) → loaded_room d a.sequences ls ≡ true → loaded_valued d a.sequences l.loaded ≡ true → loaded_refusal d a.sequences l.loaded ≡ 0
+        go : (d : DrafterCost) → loaded_room d a.sequences ls ≡ true → loaded_valued d a.sequences l.loaded ≡ true → loaded_judged d a.sequences l.loaded ≡ Ok tt
         go (Fraction frac) h k = refl
         go (Autoregressive dense expert experts per shared) h k = rw (lt-ltb a.sequences (length l.loaded) (has_entry a.sequences (length l.loaded) h), k)
         go (BlockParallel params block) h k = refl

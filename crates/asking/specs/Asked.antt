@@ -1,7 +1,8 @@
 -- What a plan is lent, and what is refused of it before anything is drawn. Assumes nothing.
-use Rattle.std.specs.Prelude.{ℕ, Bool, true, ◌&&◌, cond, List, eqb, length, Float}
-use Rattle.refusals.specs.Refusals.{first_of}
-use Rattle.speculative.specs.Drafter.{rates_refusal}
+use Rattle.std.specs.Prelude.{ℕ, Bool, true, ◌&&◌, cond, List, length, is_ok, Float}
+use Rattle.refusals.specs.declared.Refusal.TheVariants.{Input}
+use Rattle.refusals.specs.Refusals.{Judgement, passed_if, and_then, number_in}
+use Rattle.speculative.specs.Drafter.{rates_judged}
 use Rattle.cost_rows.specs.Table.{Row, zip}
 use Rattle.ledger_rows.specs.declared.layout.Past.{Past}
 use Rattle.ledger_workers.specs.Workers.{past_of}
@@ -9,11 +10,12 @@ use Rattle.settings.specs.declared.Settings.{Settings}
 use Rattle.settings.specs.Settings.{gamma_in, uses_costs}
 use Rattle.asked_rooms.specs.declared.Ask.{Ask}
 use Rattle.asked_rooms.specs.declared.Lengths.{Lengths}
-use Rattle.asked_rooms.specs.Sizes.{sizes_refusal}
-use Rattle.asked_rooms.specs.Rooms.{rooms_refusal}
+use Rattle.asked_rooms.specs.Sizes.{sizes_judged}
+use Rattle.asked_rooms.specs.Rooms.{rooms_judged}
+use Rattle.asking.specs.declared.Inputs.{Inputs}
 use Rattle.asking.specs.Values.{prices_valued, loaded_valued, policy_valued}
 
--- the lists that are lent; `positions` stand beside the settings
+-- the lists that are lent, as they stand; `positions` stand beside the settings
 pub record Lent : Type 0 where
   pub positions : List Float
   pub roofline : List Float
@@ -26,6 +28,21 @@ pub record Lent : Type 0 where
   pub bank_curve_of : List Float
   pub draws : List Float
   pub indices : List ℕ
+
+abbrev pub lists_of : Inputs → Lent
+lists_of i = record {
+  positions = i.positions.now;
+  roofline = i.roofline.now;
+  depths = i.depths.now;
+  batches = i.batches.now;
+  seconds = i.seconds.now;
+  loaded = i.loaded.now;
+  bank_commits_of = i.bank_commits.now;
+  signals = i.signals.now;
+  bank_curve_of = i.bank_curve.now;
+  draws = i.draws.now;
+  indices = i.indices.now;
+}
 
 abbrev pub table_of : Ask → Lent → List Row
 table_of a l = zip a.rows l.depths l.batches l.seconds
@@ -50,16 +67,23 @@ lengths_of l storage drafts commits = record {
 abbrev pub costs_valued : Settings → Ask → Lent → Bool
 costs_valued s a l =
     cond (uses_costs s.policy)
-    (eqb (rates_refusal a.rates) 0 && (prices_valued a.source (gamma_in s a.depth) l.roofline (table_of a l) && loaded_valued s.drafter a.sequences l.loaded))
+    (is_ok (rates_judged a.rates) && (prices_valued a.source (gamma_in s a.depth) l.roofline (table_of a l) && loaded_valued s.drafter a.sequences l.loaded))
     true
 
--- 15; `past` is what the storage has of the worker
-unfoldable pub values_refusal : Settings → Ask → Lent → Past → ℕ
-values_refusal s a l past =
-    cond (costs_valued s a l && policy_valued s.policy s.model s.switch (gamma_in s a.depth) l.bank_curve_of past) 0 15
+-- `past` is what the storage has of the worker
+unfoldable pub values_judged : Settings → Ask → Lent → Past → Judgement
+values_judged s a l past =
+    passed_if (costs_valued s a l && policy_valued s.policy s.model s.switch (gamma_in s a.depth) l.bank_curve_of past) Input
 
--- 11, then 16, then 15; `ws` is the storage, and there is room for so many drafts and commits
-unfoldable pub asked_refusal : Settings → Ask → Lent → List ℕ → ℕ → ℕ → ℕ
-asked_refusal s a l ws drafts commits =
-    first_of (sizes_refusal s.model s.gamma a.sequences a.depth a.rounds a.source a.rows)
-    (first_of (rooms_refusal s a (lengths_of l (length ws) drafts commits)) (values_refusal s a l (past_of ws a.a a.b)))
+-- the sizes, then the rooms, then the values; `ws` is the storage, and there is room for so many drafts and commits
+unfoldable pub asked_judged : Settings → Ask → Lent → List ℕ → ℕ → ℕ → Judgement
+asked_judged s a l ws drafts commits =
+    and_then (sizes_judged s.model s.gamma a.sequences a.depth a.rounds a.source a.rows)
+    (and_then (rooms_judged s a (lengths_of l (length ws) drafts commits)) (values_judged s a l (past_of ws a.a a.b)))
+
+-- ---- their numbers, 0 where they pass
+abbrev pub values_refusal : Settings → Ask → Lent → Past → ℕ
+values_refusal s a l past = number_in (values_judged s a l past)
+
+abbrev pub asked_refusal : Settings → Ask → Lent → List ℕ → ℕ → ℕ → ℕ
+asked_refusal s a l ws drafts commits = number_in (asked_judged s a l ws drafts commits)

@@ -1,68 +1,74 @@
-// What of a plan's inputs is refused before anything is drawn: sizes (11), rooms (16), values (15).
+// What of a plan's inputs is refused before anything is drawn: the sizes, the rooms, the values.
 #![tactic(auto)]
 
 mod values;
 
-ghost use Rattle.std.specs.Prelude.{◌≡◌};
-ghost use Rattle.asking.specs.Asked.{asked_refusal};
+ghost use Rattle.std.specs.Prelude.{◌≡◌, length};
+ghost use Rattle.asking.specs.Asked.{lists_of, lengths_of, asked_judged};
 
 pub use asked_rooms::Ask;
 use asked_rooms::{Lengths, rooms, sizes};
+use refusals::Refusal;
 use settings::Settings;
 
-// 11, then 16, then 15; else 0. `drafts` and `commits` are how many there is room for.
-pub fn asked_refusal(
+// The lists that a plan is lent to read; `positions` stand beside the settings.
+#[derive(Clone, Copy)]
+pub struct Inputs<'a> {
+    pub positions: &'a [f64],
+    pub roofline: &'a [f64],
+    // the cost table, a column each
+    pub depths: &'a [u32],
+    pub batches: &'a [u32],
+    pub seconds: &'a [f64],
+    // the routed experts that each number of sequences loads
+    pub loaded: &'a [f64],
+    pub bank_commits: &'a [u32],
+    pub signals: &'a [f64],
+    pub bank_curve: &'a [f64],
+    pub draws: &'a [f64],
+    pub indices: &'a [u32],
+}
+
+// How long all that is lent is; `drafts` and `commits` are how many there is room for.
+fn lengths(inputs: Inputs, storage: usize, drafts: usize, commits: usize) -> Lengths
+    ensures { result ≡ lengths_of (lists_of inputs.entry) storage drafts commits }
+{
+    Lengths {
+        storage,
+        drafts,
+        commits,
+        roofline: inputs.roofline.len(),
+        depths: inputs.depths.len(),
+        batches: inputs.batches.len(),
+        seconds: inputs.seconds.len(),
+        loaded: inputs.loaded.len(),
+        bank_commits: inputs.bank_commits.len(),
+        signals: inputs.signals.len(),
+        bank_curve: inputs.bank_curve.len(),
+    }
+}
+
+// The sizes, then the rooms, then the values. `drafts` and `commits` are how many there is room for.
+#[tactic(auto, using(crate::proofs::Passed::rooms_storage, crate::proofs::Passed::columns_fit_lem), unfolding(crate::specs::Asked::asked_judged))]
+pub fn judge_ask(
     settings: Settings,
     ask: Ask,
-    positions: &[f64],
-    roofline: &[f64],
-    depths: &[u32],
-    batches: &[u32],
-    seconds: &[f64],
-    loaded: &[f64],
-    bank_commits: &[u32],
-    signals: &[f64],
-    bank_curve: &[f64],
-    draws: &[f64],
-    indices: &[u32],
+    inputs: Inputs,
     storage: &[u64],
     drafts: usize,
     commits: usize,
-) -> u64
-    ensures { result ≡ asked_refusal settings ask (record { positions = positions.now; roofline = roofline.now; depths = depths.now; batches = batches.now; seconds = seconds.now; loaded = loaded.now; bank_commits_of = bank_commits.now; signals = signals.now; bank_curve_of = bank_curve.now; draws = draws.now; indices = indices.now }) storage.now drafts commits }
+) -> Result<(), Refusal>
+    ensures { result ≡ asked_judged settings ask (lists_of inputs.entry) storage.now drafts commits }
 {
-    let model = settings.model;
-    let source = ask.source;
-    let sizes = sizes::sizes_refusal(
-        model,
+    sizes::judge_sizes(
+        settings.model,
         settings.gamma,
         ask.sequences,
         ask.depth,
         ask.rounds,
-        source,
+        ask.source,
         ask.rows,
-    );
-    if 0 < sizes {
-        return sizes;
-    }
-    let lengths = Lengths {
-        storage: storage.len(),
-        drafts,
-        commits,
-        roofline: roofline.len(),
-        depths: depths.len(),
-        batches: batches.len(),
-        seconds: seconds.len(),
-        loaded: loaded.len(),
-        bank_commits: bank_commits.len(),
-        signals: signals.len(),
-        bank_curve: bank_curve.len(),
-    };
-    let rooms = rooms::rooms_refusal(settings, ask, lengths);
-    if 0 < rooms {
-        return rooms;
-    }
-    values::values_refusal(
-        settings, ask, roofline, depths, batches, seconds, loaded, bank_curve, storage,
-    )
+    )?;
+    rooms::judge_rooms(settings, ask, lengths(inputs, storage.len(), drafts, commits))?;
+    values::judge_values(settings, ask, inputs, storage)
 }

@@ -1,76 +1,56 @@
-// 15: the values of what a plan is lent, for a caller that has judged the sizes and the lengths.
-ghost use Rattle.std.specs.Prelude.{◌≡◌, true, ◌&&◌, cond, ◌≤◌, eqb, length};
-ghost use Rattle.speculative.specs.Drafter.{rates_refusal};
-ghost use Rattle.cost_rows.specs.Table.{zip};
+// The values of what a plan is lent, for a caller that has judged the sizes and the lengths.
+ghost use Rattle.std.specs.Prelude.{◌≡◌, true, cond, ◌≤◌, length};
 ghost use Rattle.ledger_rows.specs.Layout.{room};
 ghost use Rattle.ledger_workers.specs.Workers.{past_of};
-ghost use Rattle.settings.specs.Settings.{uses_costs};
+ghost use Rattle.settings.specs.Settings.{uses_costs, gamma_in};
 ghost use Rattle.asked_values.specs.Columns.{columns_fit};
-ghost use Rattle.asking.specs.Values.{prices_valued, loaded_valued};
-ghost use Rattle.asking.specs.Asked.{values_refusal};
-ghost use Rattle.asking.specs.Judged.{valued};
+ghost use Rattle.asking.specs.Asked.{lists_of, costs_valued, values_judged};
 
-use crate::Ask;
+use crate::{Ask, Inputs};
 use asked_rooms::rooms::uses_costs;
 use asked_values::inner;
+use refusals::Refusal;
 use settings::Settings;
 
 // Whether the rates, the prices and the loaded experts are in range, where the policy looks at costs.
-fn are_costs(
-    settings: Settings,
-    ask: Ask,
-    gamma: usize,
-    roofline: &[f64],
-    depths: &[u32],
-    batches: &[u32],
-    seconds: &[f64],
-    loaded: &[f64],
-) -> bool
-    requires { cond (uses_costs settings.policy) (columns_fit ask.source ask.rows depths.now batches.now seconds.now) true ≡ true }
-    ensures { result ≡ cond (uses_costs settings.policy) (eqb (rates_refusal ask.rates) 0 && (prices_valued ask.source gamma roofline.now (zip ask.rows depths.now batches.now seconds.now) && loaded_valued settings.drafter ask.sequences loaded.now)) true }
+fn are_costs(settings: Settings, ask: Ask, gamma: usize, inputs: Inputs) -> bool
+    requires columns { cond (uses_costs settings.policy) (columns_fit ask.source ask.rows inputs.entry.depths.now inputs.entry.batches.now inputs.entry.seconds.now) true ≡ true }
+    requires depth { gamma ≡ gamma_in settings ask.depth }
+    ensures { result ≡ costs_valued settings ask (lists_of inputs.entry) }
 {
-    let policy = settings.policy;
-    let rates = ask.rates;
-    let source = ask.source;
-    let drafter = settings.drafter;
-    if !uses_costs(policy) {
+    if !uses_costs(settings.policy) {
         return true;
     }
-    if 0 < speculative::drafter::rates_refusal(rates) {
-        return false;
-    }
-    if inner::are_priced(source, gamma, roofline, depths, batches, seconds, ask.rows) {
-        inner::are_loaded(drafter, ask.sequences as usize, loaded)
-    } else {
-        false
-    }
+    speculative::drafter::judge_rates(ask.rates).is_ok()
+        && inner::are_priced(
+            ask.source,
+            gamma,
+            inputs.roofline,
+            inputs.depths,
+            inputs.batches,
+            inputs.seconds,
+            ask.rows,
+        )
+        && inner::are_loaded(settings.drafter, ask.sequences as usize, inputs.loaded)
 }
 
-// 15 where a value that the plan uses is out of range; else 0.
-pub fn values_refusal(
+// Refused as an input where a value that the plan uses is out of range.
+#[tactic(auto, unfolding(crate::specs::Asked::values_judged))]
+pub fn judge_values(
     settings: Settings,
     ask: Ask,
-    roofline: &[f64],
-    depths: &[u32],
-    batches: &[u32],
-    seconds: &[f64],
-    loaded: &[f64],
-    curve: &[f64],
+    inputs: Inputs,
     storage: &[u64],
-) -> u64
-    requires true_value { cond (uses_costs settings.policy) (columns_fit ask.source ask.rows depths.now batches.now seconds.now) true ≡ true }
+) -> Result<(), Refusal>
+    requires columns { cond (uses_costs settings.policy) (columns_fit ask.source ask.rows inputs.entry.depths.now inputs.entry.batches.now inputs.entry.seconds.now) true ≡ true }
     requires room_in_bounds { room ≤ length storage.now }
-    ensures { result ≡ values_refusal settings ask (valued roofline.now depths.now batches.now seconds.now loaded.now curve.now) (past_of storage.now ask.a ask.b) }
+    ensures { result ≡ values_judged settings ask (lists_of inputs.entry) (past_of storage.now ask.a ask.b) }
 {
     let gamma = settings::gamma_in(settings, ask.depth) as usize;
-    if !are_costs(
-        settings, ask, gamma, roofline, depths, batches, seconds, loaded,
-    ) {
-        return 15;
-    }
-    if inner::is_read(settings, gamma, curve, storage, ask.a, ask.b) {
-        0
+    let costs = are_costs(settings, ask, gamma, inputs);
+    if costs && inner::is_read(settings, gamma, inputs.bank_curve, storage, ask.a, ask.b) {
+        Ok(())
     } else {
-        15
+        Err(Refusal::Input)
     }
 }

@@ -5,10 +5,10 @@ use lib.Dec.{T}
 use Prim.Native.Nat.{ℕ, zero, suc, ◌≤◌, ◌<◌}
 use native.Mathlib.Nat.{not-suc-le-zero}
 use native.Mathlib.Omega.{arith}
-use Rattle.std.specs.Prelude.{Result, Ok, Err}
+use Rattle.std.specs.Prelude.{Result, Ok, Err, is_ok}
 use Rattle.refusals.specs.declared.Refusal.{Refusal}
 use Rattle.refusals.specs.declared.Refusal.TheVariants.{NotAscii, EmptyText, WrongHeader, FieldCount, MalformedWhole, MalformedDecimal, LongDecimal, StepSeconds, NoDrafts, NoRows, Size, Setting, AbsentDraw, Draw, Input, ShortBuffer, WorkerRoom, SecondRoom, StepRoom, NoSaneRows, NoWithdrawal}
-use Rattle.refusals.specs.Refusals.{Judgement, and_then, number_of, number_in, first_of}
+use Rattle.refusals.specs.Refusals.{Judgement, passed_if, and_then, number_of, number_in, first_of}
 
 -- ---- a test that is known
 pub chosen : {a : Bool} (b : Bool) (x y : ℕ) → a ≡ b → cond b x y ≡ cond a x y
@@ -45,6 +45,15 @@ refused_is_no_pass r e = refused_is_no_answer r tt e
 pub both_pass : (a b : Judgement) → and_then a b ≡ Ok tt → (a ≡ Ok tt) × (b ≡ Ok tt)
 both_pass (Ok tt) b e = (refl, e)
 both_pass (Err r) b e = refused_is_no_pass r e
+
+-- a test passes where its refusal is not given
+pub passes : (t : Bool) (r : Refusal) → passed_if t r ≡ Ok tt → t ≡ true
+passes true r e = refl
+passes false r e = refused_is_no_pass r e
+
+pub ok_passed : (a : Judgement) → is_ok a ≡ true → a ≡ Ok tt
+ok_passed (Ok tt) e = refl
+ok_passed (Err r) e = absurd (subst T (sym e) tt)
 
 -- their number is that of the first that refuses
 pub number_of_both : {A : Type 0} (a : Judgement) (b : Result A Refusal) → number_in (and_then a b) ≡ first_of (number_in a) (number_in b)
