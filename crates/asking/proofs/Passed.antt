@@ -10,12 +10,13 @@ use lib.ListN.{length, take}
 use lib.Ieee.{Float}
 use Rattle.std.specs.Prelude.{Ok, is_ok}
 use Rattle.refusals.specs.declared.Refusal.TheVariants.{Size, Input, ShortBuffer}
-use Rattle.refusals.proofs.First.{both_pass, ok_passed, passes}
+use Rattle.refusals.specs.Refusals.{number_in}
+use Rattle.refusals.proofs.First.{both_pass, ok_passed, passed_is_zero, passes}
 use Rattle.laws.proofs.Both.{both}
 use Rattle.float.proofs.Classes.{clash}
 use Rattle.acceptance.specs.declared.AcceptanceModel.{AcceptanceModel}
 use Rattle.acceptance.specs.declared.AcceptanceModel.TheVariants.{Trace}
-use Rattle.speculative.specs.Drafter.{rates_judged, loaded_judged}
+use Rattle.speculative.specs.Drafter.{rates_judged, rates_refusal, loaded_judged, loaded_refusal}
 use Rattle.speculative.specs.declared.drafter.DrafterCost.{DrafterCost}
 use Rattle.speculative.specs.declared.drafter.DrafterCost.TheVariants.{Fraction, Autoregressive, BlockParallel}
 use Rattle.goodput.specs.declared.curve.Source.{Source}
@@ -36,7 +37,7 @@ use Rattle.asked_rooms.specs.declared.Lengths.{Lengths}
 use Rattle.asked_rooms.specs.Sizes.{bank_fits, table_fits, sizes_judged}
 use Rattle.asked_rooms.specs.Rooms.{own_rooms, price_rooms, loaded_room, cost_rooms, signal_rooms, bank_rooms, rooms_judged}
 use Rattle.asking.specs.Values.{prices_valued, loaded_valued, curve_valued, held_of, policy_valued}
-use Rattle.asking.specs.Asked.{Lent, table_of, lengths_of, costs_valued, values_judged, asked_judged}
+use Rattle.asking.specs.Asked.{Lent, table_of, lengths_of, costs_valued, values_judged, asked_judged, asked_refusal}
 use Rattle.asked_values.specs.Columns.{columns_fit}
 use Rattle.settings.proofs.Cases.{capped_le}
 use Rattle.asked_rooms.proofs.Tests.{used}
@@ -104,7 +105,7 @@ columns_fit_lem s a l d b x p q r e f =
         (both (leb a.rows l.depths && (leb a.rows l.batches && leb a.rows l.seconds)) (loaded_room s.drafter a.sequences l) h).0
 
 -- ---- all of it
-module _ (s : Settings) (a : Ask) (l : Lent) (ws : List ℕ) (drafts commits : ℕ) (e : asked_judged s a l ws drafts commits ≡ Ok tt) where
+module _ (s : Settings) (a : Ask) (l : Lent) (ws : List ℕ) (drafts commits : ℕ) (e : asked_refusal s a l ws drafts commits ≡ 0) where
   abbrev ls : Lengths
   ls = lengths_of l (length ws) drafts commits
 
@@ -116,7 +117,7 @@ module _ (s : Settings) (a : Ask) (l : Lent) (ws : List ℕ) (drafts commits : �
 
   parts : (sizes_judged s.model s.gamma a.sequences a.depth a.rounds a.source a.rows ≡ Ok tt) × ((rooms_judged s a ls ≡ Ok tt) × (values_judged s a l past ≡ Ok tt))
   unfolding asked_judged
-  parts = let p = both_pass _ _ e in (p.0, both_pass _ _ p.1)
+  parts = let p = both_pass _ _ (passed_is_zero (asked_judged s a l ws drafts commits) e) in (p.0, both_pass _ _ p.1)
 
   sizes : ((leb s.gamma 64 ≡ true) × (leb a.sequences 1024 ≡ true)) × ((bank_fits s.model a.depth a.rounds ≡ true) × (table_fits a.source a.rows ≡ true))
   sizes = sized s.model s.gamma a.sequences a.depth a.rounds a.source a.rows parts.0
@@ -211,12 +212,12 @@ module _ (s : Settings) (a : Ask) (l : Lent) (ws : List ℕ) (drafts commits : �
         let p = both (is_ok (rates_judged a.rates)) (prices_valued a.source depth l.roofline (table_of a l) && loaded_valued s.drafter a.sequences l.loaded) h in
         (p.0, both (prices_valued a.source depth l.roofline (table_of a l)) (loaded_valued s.drafter a.sequences l.loaded) p.1)
 
-    pub rates_valued : rates_judged a.rates ≡ Ok tt
-    rates_valued = ok_passed (rates_judged a.rates) cost_values.0
+    pub rates_valued : rates_refusal a.rates ≡ 0
+    rates_valued = ap number_in (ok_passed (rates_judged a.rates) cost_values.0)
 
-    pub loaded_valued_lem : loaded_judged s.drafter a.sequences l.loaded ≡ Ok tt
+    pub loaded_valued_lem : loaded_refusal s.drafter a.sequences l.loaded ≡ 0
     unfolding loaded_judged
-    loaded_valued_lem = go s.drafter cost_rooms_lem.1 cost_values.1.1
+    loaded_valued_lem = ap number_in (go s.drafter cost_rooms_lem.1 cost_values.1.1)
       where
         go : (d : DrafterCost) → loaded_room d a.sequences ls ≡ true → loaded_valued d a.sequences l.loaded ≡ true → loaded_judged d a.sequences l.loaded ≡ Ok tt
         go (Fraction frac) h k = refl
