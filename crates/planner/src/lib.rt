@@ -7,11 +7,11 @@ ghost use Rattle.ledger.specs.Calls.{collected, withdrawn};
 ghost use Rattle.judged_plans.specs.Plan.{planned};
 ghost use Rattle.verifies.specs.Accepted.{accepted_of};
 
-use asking::Ask;
+use asking::{Ask, Inputs};
 pub use judged_plans::Planned;
-use ledger::answer::{Answer, Stall};
+use refusals::Refusal;
 use settings::Settings;
-use speculative::drafter::{DraftTime, Rates};
+use speculative::drafter::Rates;
 
 // A plan. `storage` is the planner's own; the drafts and the commits of the sequences are written to the fronts of `drafts`
 // and `commits`. Refused with the first of 12, 11, 16, 15, 13 or 14, 15 of the signals, 17, 18 and 19, and then nothing is written.
@@ -36,16 +36,13 @@ pub fn plan(
 ) -> Planned
     ensures { record { answer = result; storage = storage.new; drafts = drafts.new; commits = commits.new } ≡ planned settings ask (record { positions = positions.now; roofline = roofline.now; depths = depths.now; batches = batches.now; seconds = seconds.now; loaded = loaded.now; bank_commits_of = bank_commits.now; signals = signals.now; bank_curve_of = bank_curve.now; draws = draws.now; indices = indices.now }) storage.old drafts.old commits.old }
 {
-    let of_settings = settings::settings_refusal(settings, positions);
-    if 0 < of_settings {
-        return Planned::Refused(of_settings);
+    if let Err(refusal) = settings::judge_settings(settings, positions) {
+        return Planned::Refused(refusal.number());
     }
     if ask.sequences == 0 {
         return Planned::Empty;
     }
-    let of_ask = asking::asked_refusal(
-        settings,
-        ask,
+    let inputs = Inputs {
         positions,
         roofline,
         depths,
@@ -57,12 +54,10 @@ pub fn plan(
         bank_curve,
         draws,
         indices,
-        storage,
-        drafts.len(),
-        commits.len(),
-    );
-    if 0 < of_ask {
-        return Planned::Refused(of_ask);
+    };
+    let room = drafts.len();
+    if let Err(refusal) = asking::judge_ask(settings, ask, inputs, storage, room, commits.len()) {
+        return Planned::Refused(refusal.number());
     }
     judged_plans::inner::plan_judged(
         settings,
@@ -98,22 +93,21 @@ pub fn drafter_seconds(
     rates: Rates,
     verify_c: f64,
     loaded: &[f64],
-) -> DraftTime
+) -> Result<f64, Refusal>
     ensures { result ≡ draft_ragged settings.drafter widths.now rates verify_c loaded.now }
 {
-    let drafter = settings.drafter;
-    speculative::drafter::ragged_seconds(drafter, widths, rates, verify_c, loaded)
+    speculative::drafter::ragged_seconds(settings.drafter, widths, rates, verify_c, loaded)
 }
 
 // A worker's stall, cleared to 0.0; an unknown worker's is 0.0, and is no change.
-pub fn collect(storage: &mut [u64], a: u64, b: u64) -> Stall
+pub fn collect(storage: &mut [u64], a: u64, b: u64) -> Result<f64, Refusal>
     ensures { (result, storage.new) ≡ collected storage.old a b }
 {
     ledger::collect(storage, a, b)
 }
 
 // The newest change that stands is taken back, if a withdrawal is available.
-pub fn withdraw(storage: &mut [u64]) -> Answer
+pub fn withdraw(storage: &mut [u64]) -> Result<(), Refusal>
     ensures { (result, storage.new) ≡ withdrawn storage.old }
 {
     ledger::withdraw(storage)

@@ -47,7 +47,7 @@ fn record_refusal(settings: Settings, ask: Ask, storage: &[u64]) -> u64
     let policy = settings.policy;
     let switch = settings.switch;
     if uses::uses_record(policy, switch) {
-        ledger::judge_worker(storage, ask.a, ask.b)
+        refusals::number_in(ledger::judge_worker(storage, ask.a, ask.b))
     } else {
         0
     }
@@ -61,7 +61,7 @@ fn held_refusal(settings: Settings, ask: Ask, storage: &[u64]) -> u64
     if 0 < of_record {
         return of_record;
     }
-    ledger::judge_step(storage, numeral::second(ask.end))
+    refusals::number_in(ledger::judge_step(storage, numeral::second(ask.end)))
 }
 
 // 15 of the signals, then 17, 18 or 19; else 0.

@@ -13,9 +13,7 @@ pub fn uses_costs(policy: Policy) -> bool
 {
     match policy {
         Policy::Fixed => false,
-        Policy::GoodputBudget => true,
-        Policy::GatedBudget => true,
-        Policy::GatedAggregate => true,
+        Policy::GoodputBudget | Policy::GatedBudget | Policy::GatedAggregate => true,
     }
 }
 
@@ -23,8 +21,7 @@ fn is_trace(model: AcceptanceModel) -> bool
     ensures { result ≡ is_trace model }
 {
     match model {
-        AcceptanceModel::Constant(_) => false,
-        AcceptanceModel::PerPosition => false,
+        AcceptanceModel::Constant(_) | AcceptanceModel::PerPosition => false,
         AcceptanceModel::Trace => true,
     }
 }
@@ -34,10 +31,8 @@ pub fn uses_bank_signals(policy: Policy, model: AcceptanceModel) -> bool
     ensures { result ≡ uses_signals policy && is_trace model }
 {
     match policy {
-        Policy::Fixed => false,
-        Policy::GoodputBudget => false,
-        Policy::GatedBudget => is_trace(model),
-        Policy::GatedAggregate => is_trace(model),
+        Policy::Fixed | Policy::GoodputBudget => false,
+        Policy::GatedBudget | Policy::GatedAggregate => is_trace(model),
     }
 }
 
@@ -46,9 +41,7 @@ pub fn uses_record(policy: Policy, switch: SwitchConstraints) -> bool
     ensures { result ≡ put_under switch policy }
 {
     match policy {
-        Policy::Fixed => false,
-        Policy::GoodputBudget => false,
-        Policy::GatedBudget => false,
+        Policy::Fixed | Policy::GoodputBudget | Policy::GatedBudget => false,
         Policy::GatedAggregate => !switch.is_unconstrained(),
     }
 }
