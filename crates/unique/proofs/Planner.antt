@@ -7,8 +7,7 @@ use Rattle.speculative.specs.Drafter.{draft_ragged}
 use Rattle.std.specs.Prelude.{Option, Result}
 use Rattle.refusals.specs.declared.Refusal.{Refusal}
 use Rattle.speculative.specs.declared.drafter.Rates.{Rates}
-use Rattle.ledger.specs.declared.answer.Answer.{Answer}
-use Rattle.ledger.specs.declared.answer.Stall.{Stall}
+use Rattle.refusals.specs.Refusals.{Judgement}
 use Rattle.ledger.specs.Calls.{collected, withdrawn}
 use Rattle.settings.specs.declared.Settings.{Settings}
 use Rattle.asked_rooms.specs.declared.Ask.{Ask}
@@ -27,8 +26,8 @@ accepted_once draft commits x y p q = once p q
 pub drafter_seconds_once : (settings : Settings) (widths : List ℕ) (rates : Rates) (verify_c : Float) (loaded : List Float) → OnlyOne (λ (r : Result Float Refusal). r ≡ draft_ragged settings.drafter widths rates verify_c loaded)
 drafter_seconds_once settings widths rates verify_c loaded x y p q = once p q
 
-pub collect_once : (storage : List ℕ) (a b : ℕ) → OnlyTwo (λ (r : Stall) (storage' : List ℕ). (r, storage') ≡ collected storage a b)
+pub collect_once : (storage : List ℕ) (a b : ℕ) → OnlyTwo (λ (r : Result Float Refusal) (storage' : List ℕ). (r, storage') ≡ collected storage a b)
 collect_once storage a b x left y c p q = pair_once p q
 
-pub withdraw_once : (storage : List ℕ) → OnlyTwo (λ (r : Answer) (storage' : List ℕ). (r, storage') ≡ withdrawn storage)
+pub withdraw_once : (storage : List ℕ) → OnlyTwo (λ (r : Judgement) (storage' : List ℕ). (r, storage') ≡ withdrawn storage)
 withdraw_once storage x b y c p q = pair_once p q
