@@ -69,6 +69,10 @@ pub fn judge_ask(
         ask.source,
         ask.rows,
     )?;
-    rooms::judge_rooms(settings, ask, lengths(inputs, storage.len(), drafts, commits))?;
+    rooms::judge_rooms(
+        settings,
+        ask,
+        lengths(inputs, storage.len(), drafts, commits),
+    )?;
     values::judge_values(settings, ask, inputs, storage)
 }

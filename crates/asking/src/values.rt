@@ -14,7 +14,7 @@ use settings::Settings;
 
 // Whether the rates, the prices and the loaded experts are in range, where the policy looks at costs.
 fn are_costs(settings: Settings, ask: Ask, gamma: usize, inputs: Inputs) -> bool
-    requires columns { cond (uses_costs settings.policy) (columns_fit ask.source ask.rows inputs.entry.depths.now inputs.entry.batches.now inputs.entry.seconds.now) true ≡ true }
+    requires columns { cond (uses_costs settings.policy) (columns_fit ask.source ask.rows inputs.depths.now inputs.batches.now inputs.seconds.now) true ≡ true }
     requires depth { gamma ≡ gamma_in settings ask.depth }
     ensures { result ≡ costs_valued settings ask (lists_of inputs.entry) }
 {
@@ -42,7 +42,7 @@ pub fn judge_values(
     inputs: Inputs,
     storage: &[u64],
 ) -> Result<(), Refusal>
-    requires columns { cond (uses_costs settings.policy) (columns_fit ask.source ask.rows inputs.entry.depths.now inputs.entry.batches.now inputs.entry.seconds.now) true ≡ true }
+    requires columns { cond (uses_costs settings.policy) (columns_fit ask.source ask.rows inputs.depths.now inputs.batches.now inputs.seconds.now) true ≡ true }
     requires room_in_bounds { room ≤ length storage.now }
     ensures { result ≡ values_judged settings ask (lists_of inputs.entry) (past_of storage.now ask.a ask.b) }
 {
