@@ -16,6 +16,9 @@ pub const DIGITS_LIMIT: u64 = 1000000000000000;
 // The most decimals.
 const DECIMALS: usize = 22;
 
+// What stands between the digits and the decimals.
+const POINT: u8 = b'.';
+
 // The decimal that stands behind the sign.
 pub fn unsigned_decimal(negative: bool, text: &[u8]) -> Result<f64, Refusal>
     ensures { result ≡ unsigned_of negative text.now }
@@ -25,7 +28,7 @@ pub fn unsigned_decimal(negative: bool, text: &[u8]) -> Result<f64, Refusal>
     if text.len() <= point {
         return of_digits(negative, text, &text[point..], before.number);
     }
-    if text[point] != b'.' {
+    if text[point] != POINT {
         return Err(Refusal::MalformedDecimal);
     }
     let from = point + 1;
@@ -55,7 +58,7 @@ pub fn judge_unsigned(text: &[u8]) -> Result<(), Refusal>
     if text.len() <= before {
         return judge_digits(text, &text[before..]);
     }
-    if text[before] != b'.' {
+    if text[before] != POINT {
         return Err(Refusal::MalformedDecimal);
     }
     let from = before + 1;

@@ -29,18 +29,18 @@ returns-then-text-before c =
     let k = c.digit_count-before in
     c.judge_digits.ensures ∙ ap without_value (no_point false t k.result k.ensures _ c.if-text-before.true (part k.result t))
 
-pub returns-then-text-before-ne46 : goal.returns-then-text-before-ne46
-returns-then-text-before-ne46 c =
+pub returns-then-text-before-ne-POINT : goal.returns-then-text-before-ne-POINT
+returns-then-text-before-ne-POINT c =
     let t = c.args.text.now in
     let k = c.digit_count-before in
-    ap without_value (other_than_point false t k.result k.ensures c.if-text-before.false c.if-text-before-ne46.true)
+    ap without_value (other_than_point false t k.result k.ensures c.if-text-before.false c.if-text-before-ne-POINT.true)
 
 pub returns-then-digit_count-fraction : goal.returns-then-digit_count-fraction
 returns-then-digit_count-fraction c =
     let t = c.args.text.now in
     let k = c.digit_count-before in
     let j = c.digit_count in
-    ap without_value (other_behind false t k.result k.ensures _ c.if-text-before.false c.if-text-before-ne46.false (part (k.result + 1) t) j.result j.ensures c.if-digit_count-fraction.true)
+    ap without_value (other_behind false t k.result k.ensures _ c.if-text-before.false c.if-text-before-ne-POINT.false (part (k.result + 1) t) j.result j.ensures c.if-digit_count-fraction.true)
 
 pub judge_digits-requires-2 : goal.judge_digits-requires-2
 judge_digits-requires-2 c =
@@ -53,4 +53,4 @@ pub returns : goal.returns
 returns c =
     let t = c.args.text.now in
     let k = c.digit_count-before in
-    c.judge_digits-2.ensures ∙ ap without_value (parted false t k.result k.ensures _ c.if-text-before.false c.if-text-before-ne46.false (part (k.result + 1) t))
+    c.judge_digits-2.ensures ∙ ap without_value (parted false t k.result k.ensures _ c.if-text-before.false c.if-text-before-ne-POINT.false (part (k.result + 1) t))

@@ -32,12 +32,12 @@ returns-then-text-point c =
     let before = c.leading_digits-before in
     c.of_digits.ensures ∙ no_point a.negative t before.result.count (count_is 0 (10 ^ 15) t before.result before.ensures) _ c.if-text-point.true (part before.result.count t)
 
-pub returns-then-text-point-ne46 : goal.returns-then-text-point-ne46
-returns-then-text-point-ne46 c =
+pub returns-then-text-point-ne-POINT : goal.returns-then-text-point-ne-POINT
+returns-then-text-point-ne-POINT c =
     let a = c.args in
     let t = a.text.now in
     let before = c.leading_digits-before in
-    other_than_point a.negative t before.result.count (count_is 0 (10 ^ 15) t before.result before.ensures) c.if-text-point.false c.if-text-point-ne46.true
+    other_than_point a.negative t before.result.count (count_is 0 (10 ^ 15) t before.result before.ensures) c.if-text-point.false c.if-text-point-ne-POINT.true
 
 pub leading_digits-both-requires : goal.leading_digits-both-requires
 leading_digits-both-requires c = (number_le 0 (10 ^ 15) _ c.leading_digits-before.result c.leading_digits-before.ensures, omega arith)
@@ -48,7 +48,7 @@ returns-then-both-fraction c =
     let t = a.text.now in
     let before = c.leading_digits-before in
     let both = c.leading_digits-both in
-    other_behind a.negative t before.result.count (count_is 0 (10 ^ 15) t before.result before.ensures) _ c.if-text-point.false c.if-text-point-ne46.false (part (before.result.count + 1) t)
+    other_behind a.negative t before.result.count (count_is 0 (10 ^ 15) t before.result before.ensures) _ c.if-text-point.false c.if-text-point-ne-POINT.false (part (before.result.count + 1) t)
     both.result.count (count_is before.result.number (10 ^ 15) _ both.result both.ensures) c.if-both-fraction.true
 
 pub of_digits-requires-2 : goal.of_digits-requires-2
@@ -64,4 +64,4 @@ returns c =
     let t = a.text.now in
     let before = c.leading_digits-before in
     c.of_digits-2.ensures
-    ∙ parted a.negative t before.result.count (count_is 0 (10 ^ 15) t before.result before.ensures) _ c.if-text-point.false c.if-text-point-ne46.false (part (before.result.count + 1) t)
+    ∙ parted a.negative t before.result.count (count_is 0 (10 ^ 15) t before.result before.ensures) _ c.if-text-point.false c.if-text-point-ne-POINT.false (part (before.result.count + 1) t)
