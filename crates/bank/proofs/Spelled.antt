@@ -1,6 +1,5 @@
 -- Every number that a bank keeps is spelled in its text: the 0 for a number that has no value is never met. Assumes nothing.
 use mathlib.Core.Path.{◌≡◌, refl, sym, ap, ◌∙◌, subst}
-use mathlib.Core.Bool.{Bool, true, false, cond}
 use mathlib.Core.List.{List, [], ◌∷◌}
 use Prim.Native.Nat.{ℕ, zero, suc, ◌+◌, ◌-◌, ◌*◌, ◌≤◌, ◌<◌}
 use native.Mathlib.Nat.{not-suc-le-zero, le_of_suc-le-suc}
@@ -11,14 +10,15 @@ use lib.ListN.{length, get_or, drop, length-drop}
 use lib.Seq.{get_or-drop}
 use Rattle.text.specs.Lines.{lines}
 use Rattle.text.specs.Fields.{fields}
-use Rattle.std.specs.Prelude.{Result, Ok, Err}
+use Rattle.std.specs.Prelude.{Ok, Err}
 use Rattle.refusals.specs.declared.Refusal.TheVariants.{FieldCount}
-use Rattle.refusals.specs.Refusals.{Judgement, passed_if, and_then}
+use Rattle.refusals.specs.Refusals.{passed_if, and_then}
 use Rattle.numeral.specs.Spelling.{Whole, whole_of}
 use Rattle.decimals.specs.Decimals.{Decimal, decimal_of, without_value}
 use Rattle.bank_judge.specs.Judge.{sized, signals_judged, row_judged, judged}
 use Rattle.bank_fill.specs.Fill.{whole_value, decimal_value}
 use Rattle.bank.specs.Read.{bank_read}
+use Rattle.refusals.proofs.First.{both_pass}
 use Rattle.bank_judge.proofs.Laws.{no_answer}
 use Rattle.bank_fill.proofs.Accepted.{accepted}
 use Rattle.bank.proofs.Places.{commits_placed, signals_placed}
@@ -31,20 +31,16 @@ has_decimal : (x : Decimal) → without_value x ≡ Ok tt → x ≡ Ok (decimal_
 has_decimal (Ok x) e = refl
 has_decimal (Err refusal) e = absurd (no_answer refusal tt e)
 
-both_passed : (j k : Judgement) → and_then j k ≡ Ok tt → (j ≡ Ok tt) × (k ≡ Ok tt)
-both_passed (Ok x) k e = (refl, e)
-both_passed (Err refusal) k e = absurd (no_answer refusal tt e)
-
 row_numbers : (width skip : ℕ) (row : List (List ℕ)) → row_judged width skip row ≡ Ok tt → (without_value (whole_of (get_or row 0 [])) ≡ Ok tt) × (signals_judged (drop skip row) ≡ Ok tt)
 unfolding row_judged
 row_numbers width skip row e =
-    let counted = both_passed (passed_if (eqb (length row) width) FieldCount) (and_then (without_value (whole_of (get_or row 0 []))) (signals_judged (drop skip row))) e in
-    both_passed (without_value (whole_of (get_or row 0 []))) (signals_judged (drop skip row)) counted.1
+    let counted = both_pass (passed_if (eqb (length row) width) FieldCount) (and_then (without_value (whole_of (get_or row 0 []))) (signals_judged (drop skip row))) e in
+    both_pass (without_value (whole_of (get_or row 0 []))) (signals_judged (drop skip row)) counted.1
 
 signal_numbers : (fs : List (List ℕ)) → signals_judged fs ≡ Ok tt → (j : ℕ) → j < length fs → without_value (decimal_of (get_or fs j [])) ≡ Ok tt
 signal_numbers [] e j h = absurd (not-suc-le-zero h)
-signal_numbers (f ∷ fs) e zero h = (both_passed (without_value (decimal_of f)) (signals_judged fs) e).0
-signal_numbers (f ∷ fs) e (suc j) h = signal_numbers fs (both_passed (without_value (decimal_of f)) (signals_judged fs) e).1 j (le_of_suc-le-suc h)
+signal_numbers (f ∷ fs) e zero h = (both_pass (without_value (decimal_of f)) (signals_judged fs) e).0
+signal_numbers (f ∷ fs) e (suc j) h = signal_numbers fs (both_pass (without_value (decimal_of f)) (signals_judged fs) e).1 j (le_of_suc-le-suc h)
 
 module _ (text commits : List ℕ) (signals curve : List Float) (depth rounds : ℕ) (e : judged text (length commits) (length signals) (length curve) ≡ sized depth rounds) where
   pub commits_spelled : (i d : ℕ) → i < rounds → whole_of (get_or (fields (get_or (drop 1 (lines text)) i [])) 0 []) ≡ Ok (get_or (bank_read text commits signals curve).commits i d)

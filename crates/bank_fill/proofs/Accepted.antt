@@ -12,7 +12,7 @@ use lib.Seq.{sets}
 use Rattle.text.specs.Lines.{lines, first_line, after_line}
 use Rattle.text.proofs.Walk.{line_first, some_text}
 use Rattle.text.specs.Fields.{fields}
-use Rattle.std.specs.Prelude.{Result, Ok, Err}
+use Rattle.std.specs.Prelude.{Ok, Err}
 use Rattle.refusals.specs.declared.Refusal.TheVariants.{NotAscii, EmptyText, FieldCount, NoRows}
 use Rattle.refusals.specs.declared.RefusedRow.{RefusedRow}
 use Rattle.refusals.specs.Refusals.{Judgement, passed_if, and_then}

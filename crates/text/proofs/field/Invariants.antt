@@ -1,7 +1,7 @@
 -- `text::field` meets its contract: at each comma the field that is sought is that of the fields from there on. Assumes nothing.
 use mathlib.Core.Path.{◌≡◌}
 use mathlib.Core.List.{[]}
-use Prim.Native.Nat.{◌≤◌, ◌-◌}
+use Prim.Native.Nat.{◌≤◌}
 use lib.ListN.{length, get_or}
 use Rattle.text.specs.Fields.{fields}
 use Rattle.text.proofs.field.Given as goal

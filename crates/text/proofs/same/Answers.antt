@@ -1,6 +1,5 @@
 -- `text::same` meets its contract: at each place the answer is that of what follows. Assumes nothing.
 use mathlib.Core.Path.{sym}
-use Prim.Native.Nat.{◌-◌}
 use Rattle.text.proofs.Laws.{same_lengths}
 use Rattle.text.proofs.same.Goals as goal
 

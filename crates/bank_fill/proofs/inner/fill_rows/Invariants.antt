@@ -1,5 +1,4 @@
 -- `bank_fill::inner::fill_rows` meets its contract: at each line what is to be stored is that of the lines from there on. Assumes nothing.
-use Prim.Native.Nat.{◌-◌}
 use lib.ListN.{length}
 use Rattle.text.specs.Lines.{lines}
 use Rattle.bank_fill.specs.Fill.{commits_of, signals_of}

@@ -1,6 +1,6 @@
 -- `bank::judging::depth_of` meets its contract: at each field the depth is what was counted and that of the fields from there on. Assumes nothing.
 use mathlib.Core.Path.{◌≡◌}
-use Prim.Native.Nat.{◌≤◌, ◌+◌, ◌-◌}
+use Prim.Native.Nat.{◌≤◌, ◌+◌}
 use lib.ListN.{length}
 use Rattle.text.specs.Fields.{fields}
 use Rattle.bank_judge.specs.Judge.{depth_of}

@@ -2,7 +2,7 @@
 use Rattle.std.proofs.Common.{rules, Err}
 use mathlib.Core.Path.{◌≡◌, sym, ap, ◌∙◌}
 use mathlib.Core.List.{◌∷◌}
-use Prim.Native.Nat.{ℕ, ◌+◌, ◌-◌}
+use Prim.Native.Nat.{◌+◌, ◌-◌}
 use native.Mathlib.Omega.{arith}
 use lib.ListN.{length, take, drop}
 use lib.Seq.{length-take-le}
@@ -10,9 +10,9 @@ use Rattle.refusals.specs.Refusals.{Judgement}
 use Rattle.text.specs.Lines.{lines}
 use Rattle.text.specs.Fields.{fields}
 use Rattle.blocks.proofs.Finding.{part_length}
-use Rattle.text.proofs.Walk.{line_stop, line_next, line_first, lines_none}
+use Rattle.text.proofs.Walk.{line_stop, line_next, line_first}
 use Rattle.bank_judge.specs.Judge.{round_judged, at_row}
-use Rattle.bank_judge.proofs.Laws.{rows_refused, rows_next, rows_few, rows_none, rows_done}
+use Rattle.bank_judge.proofs.Laws.{rows_refused, rows_next, rows_few}
 use Rattle.bank_judge.proofs.inner.judge_rows.Goals.{After-at_row}
 use Rattle.bank_judge.proofs.inner.judge_rows.Goals as goal
 

@@ -1,6 +1,6 @@
 -- `bank::judging::judge_rows` meets its contract: at each line the answer is that of the lines from there on. Assumes nothing.
 use mathlib.Core.Path.{◌≡◌}
-use Prim.Native.Nat.{◌≤◌, ◌-◌}
+use Prim.Native.Nat.{◌≤◌}
 use lib.ListN.{length}
 use Rattle.text.specs.Lines.{lines}
 use Rattle.bank_judge.specs.Judge.{judge_rows}
