@@ -3,9 +3,9 @@ ghost use Rattle.std.specs.Prelude.{◌≤◌, length};
 
 use crate::{costs, expectations};
 use cases::{lists, tally, words};
-use goodput::depth::Depth;
 use goodput::{depth, expected};
 use plan_words::{drafters, lent_chains};
+use refusals::Refusal;
 
 pub fn print(rt: HostRuntime, counts: &[u64]) {
     tally::print_kind(rt, counts, b'e', b"expected_by_depth");
@@ -55,7 +55,13 @@ fn with_lengths(
     costs::put_depth(ours, best)
 }
 
-fn best(input: &[u64], chains: &[f64], lengths: &[u32], curve: &[f64], loaded: &[f64]) -> Depth {
+fn best(
+    input: &[u64],
+    chains: &[f64],
+    lengths: &[u32],
+    curve: &[f64],
+    loaded: &[f64],
+) -> Result<u32, Refusal> {
     let gamma = words::whole_at(input, 9);
     let head = drafters::drafter_of(input);
     let rates = drafters::rates_at(input, 6, 7, 8);

@@ -3,10 +3,9 @@
 ghost use Rattle.std.specs.Prelude.{◌≤◌, length};
 
 use cases::{answers, lists, tally, words};
-use goodput::depth::Depth;
-use goodput::pricing::Cost;
 use goodput::{depth, pricing};
 use plan_words::drafters;
+use refusals::Refusal;
 
 pub fn print(rt: HostRuntime, counts: &[u64]) {
     tally::print_kind(rt, counts, b't', b"total_cost");
@@ -14,11 +13,7 @@ pub fn print(rt: HostRuntime, counts: &[u64]) {
 }
 
 pub fn is_price(kind: u8) -> bool {
-    match kind {
-        b't' => true,
-        b'd' => true,
-        _ => false,
-    }
+    matches!(kind, b't' | b'd')
 }
 
 // Lends the lists.
@@ -59,7 +54,7 @@ fn ask(
     put_depth(ours, best(input, expected, curve, loaded))
 }
 
-fn total(input: &[u64], loaded: &[f64]) -> Cost {
+fn total(input: &[u64], loaded: &[f64]) -> Result<f64, Refusal> {
     let head = drafters::drafter_of(input);
     let rates = drafters::rates_at(input, 6, 7, 8);
     let g = words::whole_at(input, 9);
@@ -67,7 +62,7 @@ fn total(input: &[u64], loaded: &[f64]) -> Cost {
     pricing::total_cost(head, g, n, rates, words::float_at(input, 11), loaded)
 }
 
-fn best(input: &[u64], expected: &[f64], curve: &[f64], loaded: &[f64]) -> Depth {
+fn best(input: &[u64], expected: &[f64], curve: &[f64], loaded: &[f64]) -> Result<u32, Refusal> {
     let head = drafters::drafter_of(input);
     let rates = drafters::rates_at(input, 6, 7, 8);
     let gamma = words::whole_at(input, 9);
@@ -75,20 +70,20 @@ fn best(input: &[u64], expected: &[f64], curve: &[f64], loaded: &[f64]) -> Depth
     depth::best_depth(expected, curve, gamma, n, head, rates, loaded)
 }
 
-fn put_cost(ours: &mut [u64], cost: Cost) -> usize
+fn put_cost(ours: &mut [u64], cost: Result<f64, Refusal>) -> usize
     ensures { result ≤ length ours.new }
 {
     match cost {
-        Cost::Seconds(value) => answers::two(ours, 0, float::bits(value)),
-        Cost::Refused(number) => answers::two(ours, number, 0),
+        Ok(value) => answers::two(ours, 0, float::bits(value)),
+        Err(refusal) => answers::two(ours, refusal.number(), 0),
     }
 }
 
-pub fn put_depth(ours: &mut [u64], best: Depth) -> usize
+pub fn put_depth(ours: &mut [u64], best: Result<u32, Refusal>) -> usize
     ensures { result ≤ length ours.new }
 {
     match best {
-        Depth::Best(g) => answers::two(ours, 0, g as u64),
-        Depth::Refused(number) => answers::two(ours, number, 0),
+        Ok(g) => answers::two(ours, 0, g as u64),
+        Err(refusal) => answers::two(ours, refusal.number(), 0),
     }
 }

@@ -5,7 +5,7 @@ ghost use Rattle.std.specs.Prelude.{◌≤◌, length};
 use acceptance::AcceptanceModel;
 use cases::{answers, lists, tally, words};
 use goodput::expected;
-use goodput::expected::Answer;
+use refusals::Refusal;
 
 // What each slot of values holds before a call.
 pub const BEFORE: f64 = 42.0;
@@ -16,11 +16,7 @@ pub fn print(rt: HostRuntime, counts: &[u64]) {
 }
 
 pub fn is_expectation(kind: u8) -> bool {
-    match kind {
-        b'm' => true,
-        b'b' => true,
-        _ => false,
-    }
+    matches!(kind, b'm' | b'b')
 }
 
 // Lends the list, and as many slots for the values as the words say.
@@ -41,7 +37,7 @@ fn expect_in(kind: u8, input: &[u64], list: &[f64], out: &mut [f64], ours: &mut 
     put(ours, answer, out)
 }
 
-fn ask(kind: u8, input: &[u64], list: &[f64], out: &mut [f64]) -> Answer {
+fn ask(kind: u8, input: &[u64], list: &[f64], out: &mut [f64]) -> Result<(), Refusal> {
     let gamma = words::whole_at(input, 2);
     let n = words::whole_at(input, 3);
     if kind == b'm' {
@@ -62,18 +58,9 @@ fn model_of(input: &[u64]) -> AcceptanceModel {
 }
 
 // The refusal, and the values as the call leaves them.
-pub fn put(ours: &mut [u64], answer: Answer, out: &[f64]) -> usize
+pub fn put(ours: &mut [u64], answer: Result<(), Refusal>, out: &[f64]) -> usize
     ensures { result ≤ length ours.new }
 {
-    let at = put_answer(ours, answer);
+    let at = answers::one(ours, refusals::number_in(answer));
     answers::put_floats(ours, at, out)
-}
-
-fn put_answer(ours: &mut [u64], answer: Answer) -> usize
-    ensures { result ≤ length ours.new }
-{
-    match answer {
-        Answer::Written => answers::one(ours, 0),
-        Answer::Refused(number) => answers::one(ours, number),
-    }
 }
