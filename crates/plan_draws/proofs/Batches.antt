@@ -6,12 +6,14 @@ use Prim.Native.Nat.{ℕ, zero, suc, ◌≤◌, ◌<◌}
 use native.Mathlib.Omega.{arith}
 use lib.Dec.{ltb}
 use lib.ListN.{length, get_or, drop}
-use lib.Ieee.{Float, lt}
-use Rattle.acceptance.specs.Acceptance.{a_d, is_draw, and_one, consume, sampled}
+use lib.Ieee.{Float}
+use Rattle.acceptance.specs.Acceptance.{sampled}
 use Rattle.acceptance.specs.declared.AcceptanceModel.{AcceptanceModel}
 use Rattle.acceptance.specs.declared.AcceptanceModel.TheVariants.{Constant, PerPosition, Trace}
 use Rattle.acceptance.specs.declared.Sample.{Sample}
-use Rattle.acceptance.specs.declared.Sample.TheVariants.{Accepted, Refused}
+use Rattle.std.specs.Prelude.{Result, Ok, Err}
+use Rattle.refusals.specs.declared.Refusal.{Refusal}
+use Rattle.refusals.proofs.First.{no_zero}
 use Rattle.settings.specs.declared.Settings.{Settings}
 use Rattle.settings.specs.Settings.{is_trace}
 use Rattle.rounds.specs.Drawing.{Batch, refused_with, and_used, and_then, sequence_then, analytic, replayed}
@@ -27,39 +29,20 @@ abbrev pub Told : Drawn → ℕ → ℕ → Type 0
 Told (Used used) long n = long ≡ n
 Told (NotDrawn number) long n = 0 < number
 
-abbrev SampleTold : Sample → Type 0
-SampleTold (Accepted commits used) = 0 ≤ commits
-SampleTold (Refused number) = 0 < number
-
-one_told : (later : Sample) → SampleTold later → SampleTold (and_one later)
-one_told (Accepted commits used) h = omega arith
-one_told (Refused number) h = h
-
-consume_told : (x below : Bool) (later : Sample) → SampleTold later → SampleTold (consume x below later)
-consume_told false below later h = omega arith
-consume_told true false later h = omega arith
-consume_told true true later h = one_told later h
-
-sampled_told : (model : AcceptanceModel) (positions : List Float) (d left : ℕ) (draws : List Float) → SampleTold (sampled model positions d left draws)
-unfolding sampled
-sampled_told model positions d zero draws = omega arith
-sampled_told model positions d (suc left) [] = omega arith
-sampled_told model positions d (suc left) (x ∷ draws) = consume_told (is_draw x) (lt x (a_d model positions d)) (sampled model positions (suc d) left draws) (sampled_told model positions (suc d) left draws)
-
 then_told : (used : ℕ) (later : Drawn) (long n : ℕ) → Told later long n → Told (and_used used later) (suc long) (suc n)
 then_told used (Used more) long n h = ap suc h
 then_told used (NotDrawn number) long n h = h
 
-sequence_told : (sample : Sample) (later : ℕ → Batch) (n : ℕ) → SampleTold sample → ((used : ℕ) → Told (later used).answer (length (later used).commits) n)
+sequence_told : (sample : Result Sample Refusal) (later : ℕ → Batch) (n : ℕ) → ((used : ℕ) → Told (later used).answer (length (later used).commits) n)
     → Told (sequence_then sample later).answer (length (sequence_then sample later).commits) (suc n)
-sequence_told (Accepted commits used) later n s h = then_told used (later used).answer (length (later used).commits) n (h used)
-sequence_told (Refused number) later n s h = s
+sequence_told (Ok sample) later n h = then_told sample.used (later sample.used).answer (length (later sample.used).commits) n (h sample.used)
+sequence_told (Err refusal) later n h = no_zero refusal
 
 analytic_told : (model : AcceptanceModel) (positions : List Float) (gamma n : ℕ) (draws : List Float) → Told (analytic model positions gamma n draws).answer (length (analytic model positions gamma n draws).commits) n
 unfolding analytic
 analytic_told model positions gamma zero draws = refl
 analytic_told model positions gamma (suc n) draws =
-    sequence_told (sampled model positions 0 gamma draws) (λ used. analytic model positions gamma n (drop used draws)) n (sampled_told model positions 0 gamma draws)
+    sequence_told (sampled model positions 0 gamma draws) (λ used. analytic model positions gamma n (drop used draws)) n
     (λ used. analytic_told model positions gamma n (drop used draws))
 
 round_told : (t : Bool) (commits : ℕ) (later : Batch) (n : ℕ) → Told later.answer (length later.commits) n

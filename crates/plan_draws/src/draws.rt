@@ -14,11 +14,7 @@ fn put_front(drawn: &[u32], commits: &mut [u32])
     requires { length drawn.now ≤ length commits.old }
     ensures { commits.new ≡ drawn.now ++ drop (length drawn.now) commits.old }
 {
-    let mut k = 0usize;
-    while k < drawn.len() {
-        commits[k] = drawn[k];
-        k += 1;
-    }
+    commits[..drawn.len()].copy_from_slice(drawn);
 }
 
 // As many sequences as `drawn` is long, by an acceptance model: drawn there first.
@@ -46,8 +42,8 @@ fn draw_within(
     }
 }
 
-// At most 64 sequences.
-fn draw_few(
+// At most N sequences, drawn into an array of so many.
+fn draw_in<const N: usize>(
     late: u64,
     model: AcceptanceModel,
     positions: &[f64],
@@ -56,35 +52,10 @@ fn draw_few(
     draws: &[f64],
     commits: &mut [u32],
 ) -> Drawn
-    requires { (gamma ≤ 64) × (n ≤ 64) × (n ≤ length commits.old) }
+    requires { (gamma ≤ 64) × (n ≤ N) × (N ≤ 1024) × (n ≤ length commits.old) }
     ensures { record { answer = result; commits = commits.new } ≡ drawn_unless late (analytic model positions.now gamma n draws.now) commits.old }
 {
-    let mut drawn = [0u32; 64];
-    draw_within(
-        late,
-        model,
-        positions,
-        gamma,
-        draws,
-        &mut drawn[..n],
-        commits,
-    )
-}
-
-// At most 1,024.
-fn draw_many(
-    late: u64,
-    model: AcceptanceModel,
-    positions: &[f64],
-    gamma: u32,
-    n: usize,
-    draws: &[f64],
-    commits: &mut [u32],
-) -> Drawn
-    requires { (gamma ≤ 64) × (n ≤ 1024) × (n ≤ length commits.old) }
-    ensures { record { answer = result; commits = commits.new } ≡ drawn_unless late (analytic model positions.now gamma n draws.now) commits.old }
-{
-    let mut drawn = [0u32; 1024];
+    let mut drawn = [0u32; N];
     draw_within(
         late,
         model,
@@ -110,9 +81,9 @@ fn draw_model(
     ensures { record { answer = result; commits = commits.new } ≡ drawn_unless late (analytic model positions.now gamma n draws.now) commits.old }
 {
     if n <= 64 {
-        draw_few(late, model, positions, gamma, n, draws, commits)
+        draw_in::<64>(late, model, positions, gamma, n, draws, commits)
     } else {
-        draw_many(late, model, positions, gamma, n, draws, commits)
+        draw_in::<1024>(late, model, positions, gamma, n, draws, commits)
     }
 }
 
@@ -128,10 +99,8 @@ fn are_below(rounds: usize, indices: &[u32]) -> bool
     ensures { result ≡ true → (k : ℕ) → k < length indices.now → get_or indices.now k 0 < rounds }
 {
     let mut told = 0u32;
-    let mut k = 0usize;
-    while k < indices.len() {
-        told = above(rounds, indices[k], told);
-        k += 1;
+    for index in indices {
+        told = above(rounds, *index, told);
     }
     told == 0
 }
@@ -140,16 +109,13 @@ fn are_below(rounds: usize, indices: &[u32]) -> bool
 fn first_refusal(rounds: usize, n: usize, indices: &[u32]) -> u64
     ensures { result ≡ index_refusal rounds n indices.now }
 {
-    let mut k = 0usize;
-    while k < n {
+    for k in 0..n {
         if indices.len() <= k {
             return 13;
         }
-        let index = indices[k];
-        if rounds <= index as usize {
+        if rounds <= indices[k] as usize {
             return 14;
         }
-        k += 1;
     }
     0
 }
@@ -158,10 +124,8 @@ fn first_refusal(rounds: usize, n: usize, indices: &[u32]) -> u64
 fn index_refusal(rounds: usize, n: usize, indices: &[u32]) -> u64
     ensures { result ≡ index_refusal rounds n indices.now }
 {
-    if n <= indices.len() {
-        if are_below(rounds, &indices[..n]) {
-            return 0;
-        }
+    if n <= indices.len() && are_below(rounds, &indices[..n]) {
+        return 0;
     }
     first_refusal(rounds, n, indices)
 }
@@ -208,10 +172,7 @@ pub fn draw(
     let gamma = settings.gamma;
     let n = ask.sequences as usize;
     match model {
-        AcceptanceModel::Constant(_) => draw_model(
-            late, model, positions, gamma, n, draws, commits,
-        ),
-        AcceptanceModel::PerPosition => draw_model(
+        AcceptanceModel::Constant(_) | AcceptanceModel::PerPosition => draw_model(
             late, model, positions, gamma, n, draws, commits,
         ),
         AcceptanceModel::Trace => replay(

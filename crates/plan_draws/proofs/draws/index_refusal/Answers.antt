@@ -1,11 +1,6 @@
 -- `draws::index_refusal` meets its contract: where all are below the round count nothing is refused. Assumes nothing.
-use mathlib.Core.Path.{sym}
-use lib.Seq.{length-take-le}
 use Rattle.plan_draws.proofs.Late.{none_above}
 use Rattle.plan_draws.proofs.draws.index_refusal.Goals as goal
-
-pub slice_bounds-are_below-end : goal.slice_bounds-are_below-end
-slice_bounds-are_below-end c = sym (length-take-le c.args.n c.args.indices.now c.if-n-indices.true)
 
 pub returns-then-are_below : goal.returns-then-are_below
 returns-then-are_below c =
