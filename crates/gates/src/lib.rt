@@ -3,18 +3,12 @@
 #![tactic(auto)]
 
 ghost use Rattle.std.specs.Prelude.{◌≡◌};
-ghost use Rattle.gates.specs.Entry.{room_refusal, ragged_answer, block_answer};
+ghost use Rattle.gates.specs.Entry.{room_judged, ragged_answer, block_answer};
 
-use goodput::depth::{Depth, aggregate_depth};
-use speculative::drafter::{DrafterCost, Rates, drafter_refusal};
+use goodput::depth::aggregate_depth;
+use refusals::Refusal;
+use speculative::drafter::{DrafterCost, Rates, judge_drafter};
 use verify_prices::PriceMode;
-
-// How many slots were weighed, or the number of the refusal.
-#[derive(Clone, Copy)]
-pub enum Gated {
-    Weighed(usize),
-    Refused(u64),
-}
 
 // The most drafts, and the most sequences.
 const MOST_GAMMA: u32 = 64;
@@ -35,31 +29,25 @@ pub fn gated_ragged_draft(
     rates: Rates,
     loaded: &[f64],
     widths: &mut [u32],
-) -> Gated
+) -> Result<usize, Refusal>
     ensures { record { answer = result; widths = widths.new } ≡ ragged_answer chains.now lengths.now curve.now gamma drafter rates loaded.now mode widths.old }
 {
-    let refusal = room_refusal(drafter, gamma, lengths.len(), widths.len());
-    if 0 < refusal {
-        return Gated::Refused(refusal);
-    }
-    match aggregate_depth(chains, lengths, curve, gamma, drafter, rates, loaded) {
-        Depth::Refused(number) => Gated::Refused(number),
-        Depth::Best(depth) => {
-            let n = lengths.len();
-            let count = gamma as usize + 1;
-            Gated::Weighed(ragged::inner::gated_ragged_draft(
-                chains,
-                lengths,
-                mode,
-                &curve[..count],
-                depth,
-                drafter,
-                rates,
-                loaded,
-                &mut widths[..n],
-            ))
-        }
-    }
+    judge_room(drafter, gamma, lengths.len(), widths.len())?;
+    let depth = aggregate_depth(chains, lengths, curve, gamma, drafter, rates, loaded)?;
+    let n = lengths.len();
+    let count = gamma as usize + 1;
+    let weighed = ragged::inner::gated_ragged_draft(
+        chains,
+        lengths,
+        mode,
+        &curve[..count],
+        depth,
+        drafter,
+        rates,
+        loaded,
+        &mut widths[..n],
+    );
+    Ok(weighed)
 }
 
 // The block gate: the drafter's block at the batch's best depth is paid for, and slots are added to the verify while each pays. What is lent, written
@@ -74,46 +62,39 @@ pub fn gated_block_verify(
     rates: Rates,
     loaded: &[f64],
     widths: &mut [u32],
-) -> Gated
+) -> Result<usize, Refusal>
     ensures { record { answer = result; widths = widths.new } ≡ block_answer chains.now lengths.now curve.now gamma drafter rates loaded.now mode widths.old }
 {
-    let refusal = room_refusal(drafter, gamma, lengths.len(), widths.len());
-    if 0 < refusal {
-        return Gated::Refused(refusal);
-    }
-    match aggregate_depth(chains, lengths, curve, gamma, drafter, rates, loaded) {
-        Depth::Refused(number) => Gated::Refused(number),
-        Depth::Best(depth) => {
-            let n = lengths.len();
-            let count = gamma as usize + 1;
-            Gated::Weighed(block::inner::gated_block_verify(
-                chains,
-                lengths,
-                mode,
-                &curve[..count],
-                depth,
-                drafter,
-                rates,
-                loaded,
-                &mut widths[..n],
-            ))
-        }
-    }
+    judge_room(drafter, gamma, lengths.len(), widths.len())?;
+    let depth = aggregate_depth(chains, lengths, curve, gamma, drafter, rates, loaded)?;
+    let n = lengths.len();
+    let count = gamma as usize + 1;
+    let weighed = block::inner::gated_block_verify(
+        chains,
+        lengths,
+        mode,
+        &curve[..count],
+        depth,
+        drafter,
+        rates,
+        loaded,
+        &mut widths[..n],
+    );
+    Ok(weighed)
 }
 
-// 12, 11, then 16 where there is no room for a width of each sequence; else 0.
-fn room_refusal(drafter: DrafterCost, gamma: u32, n: usize, room: usize) -> u64
-    ensures { result ≡ room_refusal drafter gamma n room }
+// 12, 11, then 16 where there is no room for a width of each sequence.
+#[tactic(auto, unfolding(crate::specs::Entry::room_judged, goodput_judges::specs::Refusals::sizes_judged, goodput_judges::specs::Refusals::counts_judged))]
+fn judge_room(drafter: DrafterCost, gamma: u32, n: usize, room: usize) -> Result<(), Refusal>
+    ensures { result ≡ room_judged drafter gamma n room }
 {
-    let refusal = drafter_refusal(drafter);
-    if 0 < refusal {
-        return refusal;
+    judge_drafter(drafter)?;
+    if MOST_GAMMA < gamma || MOST_SEQUENCES < n {
+        return Err(Refusal::Size);
     }
-    if MOST_GAMMA < gamma {
-        return 11;
+    if n <= room {
+        Ok(())
+    } else {
+        Err(Refusal::ShortBuffer)
     }
-    if MOST_SEQUENCES < n {
-        return 11;
-    }
-    if room < n { 16 } else { 0 }
 }
