@@ -146,8 +146,8 @@ fn gated_within(
     )
 }
 
-// For at most 8 sequences.
-fn gated_few(
+// For at most N sequences, whose chains have SLOTS slots in all.
+fn gated_roomy<const N: usize, const SLOTS: usize>(
     settings: Settings,
     ask: Ask,
     gamma: u32,
@@ -159,79 +159,12 @@ fn gated_few(
     curve: &[f64],
     drafts: &mut [u32],
 ) -> Gated
-    requires { Batched settings ask gamma indices.now curve.now drafts.old × (ask.sequences ≤ 8) }
+    requires batched { Batched settings ask gamma indices.now curve.now drafts.old }
+    requires room { (ask.sequences ≤ N) × (N ≤ 1024) × (ask.sequences * 64 ≤ SLOTS) × (SLOTS ≤ 65536) }
     ensures { record { depth = result.depth; weighed = result.weighed; drafts = drafts.new } ≡ gate_over own settings.prices settings.drafter ask.rates loaded.now curve.now ask.sequences gamma (chains_by settings.model positions.now signals.now ask.depth indices.now ask.sequences gamma) drafts.old }
 {
-    let lengths = [gamma; 8];
-    let mut chains = [0.0; 512];
-    gated_within(
-        settings,
-        ask,
-        gamma,
-        own,
-        positions,
-        loaded,
-        signals,
-        indices,
-        curve,
-        &lengths,
-        &mut chains,
-        drafts,
-    )
-}
-
-// For at most 64.
-fn gated_some(
-    settings: Settings,
-    ask: Ask,
-    gamma: u32,
-    own: bool,
-    positions: &[f64],
-    loaded: &[f64],
-    signals: &[f64],
-    indices: &[u32],
-    curve: &[f64],
-    drafts: &mut [u32],
-) -> Gated
-    requires { Batched settings ask gamma indices.now curve.now drafts.old × (ask.sequences ≤ 64) }
-    ensures { record { depth = result.depth; weighed = result.weighed; drafts = drafts.new } ≡ gate_over own settings.prices settings.drafter ask.rates loaded.now curve.now ask.sequences gamma (chains_by settings.model positions.now signals.now ask.depth indices.now ask.sequences gamma) drafts.old }
-{
-    let lengths = [gamma; 64];
-    let mut chains = [0.0; 4096];
-    gated_within(
-        settings,
-        ask,
-        gamma,
-        own,
-        positions,
-        loaded,
-        signals,
-        indices,
-        curve,
-        &lengths,
-        &mut chains,
-        drafts,
-    )
-}
-
-// For at most 1,024.
-fn gated_many(
-    settings: Settings,
-    ask: Ask,
-    gamma: u32,
-    own: bool,
-    positions: &[f64],
-    loaded: &[f64],
-    signals: &[f64],
-    indices: &[u32],
-    curve: &[f64],
-    drafts: &mut [u32],
-) -> Gated
-    requires { Batched settings ask gamma indices.now curve.now drafts.old }
-    ensures { record { depth = result.depth; weighed = result.weighed; drafts = drafts.new } ≡ gate_over own settings.prices settings.drafter ask.rates loaded.now curve.now ask.sequences gamma (chains_by settings.model positions.now signals.now ask.depth indices.now ask.sequences gamma) drafts.old }
-{
-    let lengths = [gamma; 1024];
-    let mut chains = [0.0; 65536];
+    let lengths = [gamma; N];
+    let mut chains = [0.0f64; SLOTS];
     gated_within(
         settings,
         ask,
@@ -265,11 +198,11 @@ fn gated_more(
     ensures { record { depth = result.depth; weighed = result.weighed; drafts = drafts.new } ≡ gate_over own settings.prices settings.drafter ask.rates loaded.now curve.now ask.sequences gamma (chains_by settings.model positions.now signals.now ask.depth indices.now ask.sequences gamma) drafts.old }
 {
     if ask.sequences <= 64 {
-        return gated_some(
+        return gated_roomy::<64, 4096>(
             settings, ask, gamma, own, positions, loaded, signals, indices, curve, drafts,
         );
     }
-    gated_many(
+    gated_roomy::<1024, 65536>(
         settings, ask, gamma, own, positions, loaded, signals, indices, curve, drafts,
     )
 }
@@ -292,7 +225,7 @@ pub fn gate_batch(
     ensures { record { depth = result.depth; weighed = result.weighed; drafts = drafts.new } ≡ gate_over own settings.prices settings.drafter ask.rates loaded.now curve.now ask.sequences gamma (chains_by settings.model positions.now signals.now ask.depth indices.now ask.sequences gamma) drafts.old }
 {
     if ask.sequences <= 8 {
-        return gated_few(
+        return gated_roomy::<8, 512>(
             settings, ask, gamma, own, positions, loaded, signals, indices, curve, drafts,
         );
     }
