@@ -8,7 +8,7 @@ use lib.ListN.{get_or, take, replicate}
 use lib.Ieee.{Float, nan, binary64, of_bits, of_int, add, sub, mul, div, lt, eq, le, neg, is_nan, to_unsigned, fits}
 use Rattle.float.specs.Floats.{whole, f0, f1, infinity, max_of, clamp_to, is_finite, is_clear}
 use Rattle.float.specs.Range as ranged
-use Rattle.speculative.specs.Drafter.{drafter_refusal, inputs_refusal, loaded_refusal, block_seconds, drafter_seconds}
+use Rattle.speculative.specs.Drafter.{drafter_judged, inputs_judged, loaded_judged, block_seconds, drafter_seconds}
 use Rattle.speculative.specs.declared.drafter.Rates.{Rates}
 use Rattle.speculative.specs.declared.drafter.DrafterCost.TheVariants.{BlockParallel}
 use Rattle.chains.specs.Scan.{scan}
@@ -16,7 +16,7 @@ use Rattle.chains.specs.Tests.{all_of}
 use Rattle.chains.specs.Expected.{add_running, sums_with, are_chains}
 use Rattle.depths.specs.Goodput.{exceeded, first_best, best_of}
 use Rattle.depths.specs.Pricing.{total_cost}
-use Rattle.goodput_judges.specs.Refusals.{sizes_refusal, aggregate_refusal}
+use Rattle.goodput_judges.specs.Refusals.{counts_judged, sizes_judged, aggregate_judged}
 use Rattle.cost_rows.specs.Table.{Row, of_depth}
 use Rattle.cost_rows.specs.Order.{before, earlier, falls, ordered}
 use Rattle.cost_rows.specs.Lawful.{in_range, all_in_range, lawful}
@@ -29,7 +29,7 @@ use Rattle.step_times.specs.Between.{deeper, deepest, shallower, shallowest, bet
 use Rattle.verify_prices.specs.Price.{mean_width}
 use Rattle.verify_prices.specs.Bridge.{is_measured, bridged_cost, straight, lower, upper_of}
 use Rattle.verify_prices.specs.declared.PriceMode.TheVariants.{Bridged}
-use Rattle.gates.specs.Entry.{depth_of, room_refusal, gate_refusal, block_chosen}
+use Rattle.gates.specs.Entry.{depth_of, room_judged, gate_judged, gate_refusal, block_chosen}
 use Rattle.bridged_laws.specs.Rows.{every_row, or_infinity}
 use Rattle.bridged_laws.specs.Paying.{paying_widths}
 use Rattle.bridged_laws.proofs.Lookup.{is_the_lookup}
@@ -90,7 +90,7 @@ some_rates : Rates
 some_rates = record { peak = f1; bw = f1; kv_delta = f0 }
 
 is_accepted : gate_refusal falling (4 ∷ []) gap 4 (BlockParallel f0 1) some_rates [] 1 ≡ 0
-unfolding f gap falling some_rates gate_refusal room_refusal sizes_refusal drafter_refusal aggregate_refusal inputs_refusal loaded_refusal are_chains all_of ranged.in_range ranged.in_signed_range ranged.in_range_or_infinite is_clear lt eq le is_nan of_bits
+unfolding f gap falling some_rates gate_judged room_judged sizes_judged counts_judged drafter_judged aggregate_judged inputs_judged loaded_judged are_chains all_of ranged.in_range ranged.in_signed_range ranged.in_range_or_infinite is_clear lt eq le is_nan of_bits
 is_accepted = refl
 
 depth_four : depth_of falling (4 ∷ []) gap 4 (BlockParallel f0 1) some_rates [] ≡ 4

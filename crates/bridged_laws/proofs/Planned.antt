@@ -1,16 +1,17 @@
 -- The bridged price in a plan that was not refused before its draws and looks at costs. `curve_of` is the plan's price curve, of the depths 0 to gamma, by a table
 -- or a roofline; `table_of` is its table. Assumes nothing.
 use mathlib.Core.Path.{◌≡◌, refl, sym, ap, ◌∙◌, subst}
-use mathlib.Core.Bool.{true, false, ◌&&◌}
+use mathlib.Core.Bool.{true, false}
 use mathlib.Core.List.{List}
 use Prim.Native.Nat.{ℕ, ◌+◌, ◌≤◌, ◌<◌}
 use native.Mathlib.Omega.{arith}
 use lib.ListN.{length, get_or, take, replicate, length-take, length-replicate}
 use lib.Ieee.{Float, nan, binary64, neg, le, is_nan, fits}
-use Rattle.laws.proofs.Both.{both}
+use Rattle.refusals.specs.declared.Refusal.TheVariants.{Setting, Input}
+use Rattle.refusals.proofs.First.{passed_is_zero}
 use Rattle.float.specs.Floats.{whole, f0, infinity, is_finite}
 use Rattle.float.specs.Range.{in_signed_range}
-use Rattle.speculative.specs.Drafter.{billion, is_streamed, is_drafter, rates_refusal, drafter_refusal, drafter_seconds, loaded_at}
+use Rattle.speculative.specs.Drafter.{billion, is_streamed, is_drafter, rates_judged, rates_refusal, drafter_judged, drafter_refusal, drafter_seconds, loaded_at}
 use Rattle.speculative.specs.declared.drafter.Rates.{Rates}
 use Rattle.speculative.specs.declared.drafter.DrafterCost.{DrafterCost}
 use Rattle.speculative.specs.declared.drafter.DrafterCost.TheVariants.{BlockParallel}
@@ -19,6 +20,7 @@ use Rattle.chains.proofs.Tested.{all_says}
 use Rattle.step_times.specs.Prices.{prices}
 use Rattle.step_times.specs.Between.{step_time_frac}
 use Rattle.batch_ranges.specs.Range.{measures}
+use Rattle.goodput_judges.proofs.Judges.{test_passed, both_tests}
 use Rattle.goodput.specs.Curve.{source_of, in_force}
 use Rattle.goodput.specs.declared.curve.Source.{Source}
 use Rattle.goodput.specs.declared.curve.Source.TheVariants.{Roofline, Table}
@@ -50,11 +52,10 @@ use Rattle.bridged_laws.proofs.Tabled.{table_curve}
 use Rattle.bridged_laws.proofs.Lookup.{is_the_lookup}
 use Rattle.bridged_laws.proofs.NeverPasses.{never_passes_judged}
 use Rattle.bridged_laws.proofs.Chosen.{chosen_measured, measured_on}
-use Rattle.bridged_laws.proofs.Entered.{test_passed}
 
 pub rates_delta : (rates : Rates) → rates_refusal rates ≡ 0 → in_signed_range (neg billion) billion rates.kv_delta ≡ true
-unfolding rates_refusal
-rates_delta rates e = (both (is_streamed rates) (in_signed_range (neg billion) billion rates.kv_delta) (test_passed (is_streamed rates && in_signed_range (neg billion) billion rates.kv_delta) 15 (omega arith) e)).1
+unfolding rates_judged
+rates_delta rates e = (both_tests (is_streamed rates) (in_signed_range (neg billion) billion rates.kv_delta) Input (passed_is_zero (rates_judged rates) e)).1
 
 module _ (s : Settings) (a : Ask) (l : Lent) (ws : List ℕ) (drafts commits : ℕ) (e : asked_refusal s a l ws drafts commits ≡ 0) (u : uses_costs s.policy ≡ true) where
   abbrev gamma : ℕ
@@ -139,14 +140,14 @@ module _ (s : Settings) (a : Ask) (l : Lent) (ws : List ℕ) (drafts commits : �
     depth = best_in (best s a l) s a l curve
 
     drafter : is_drafter kind ≡ true
-    unfolding drafter_refusal
-    drafter = ap is_drafter (sym head) ∙ test_passed (is_drafter s.drafter) 12 (omega arith) judged
+    unfolding drafter_judged
+    drafter = ap is_drafter (sym head) ∙ test_passed (is_drafter s.drafter) Setting (passed_is_zero (drafter_judged s.drafter) judged)
 
     streamed : is_streamed a.rates ≡ true
-    unfolding rates_refusal
+    unfolding rates_judged
     streamed =
-        (both (is_streamed a.rates) (in_signed_range (neg billion) billion kv)
-        (test_passed (is_streamed a.rates && in_signed_range (neg billion) billion kv) 15 (omega arith) (rates_valued s a l ws drafts commits e u))).0
+        (both_tests (is_streamed a.rates) (in_signed_range (neg billion) billion kv) Input
+        (passed_is_zero (rates_judged a.rates) (rates_valued s a l ws drafts commits e u))).0
 
     -- the gate's answer is that of the gate which takes each slot that pays and stops at the first that does not
     pub plan_never_passes : 0 < depth → (past : Past)
