@@ -3,31 +3,22 @@ use mathlib.Core.Path.{◌≡◌, ap, ◌∙◌}
 use mathlib.Core.List.{List}
 use Prim.Native.Nat.{ℕ, ◌≤◌, ◌<◌}
 use native.Mathlib.Omega.{arith}
-use borrow.Author.Tests.{eq-eqb, ne_eqb, lt-ltb, le-ltb}
+use borrow.Author.Tests.{lt-ltb, le-ltb}
 use lib.ListN.{length, take, get_or, length-take}
 use lib.Ieee.{Float, nan, binary64, to_bits}
-use Rattle.goodput.specs.declared.curve.Source.TheVariants.{Roofline, Table}
+use Rattle.std.specs.Prelude.{Result}
+use Rattle.refusals.specs.declared.Refusal.{Refusal}
+use Rattle.refusals.specs.Refusals.{Judgement}
 use Rattle.goodput.specs.declared.survival.Survival.{Survival}
-use Rattle.goodput.specs.declared.expected.Answer.{Answer}
 use Rattle.goodput.specs.Expected.{Left as Values, answer_number}
 use Rattle.speculative.specs.declared.drafter.DrafterCost.{DrafterCost}
 use Rattle.speculative.specs.declared.drafter.Rates.{Rates}
 use Rattle.verify_prices.specs.declared.PriceMode.{PriceMode}
-use Rattle.gates.specs.declared.Gated.{Gated}
 use Rattle.gates.specs.Entry.{Left}
 use Rattle.exported.specs.declared.Told.{Told}
 use Rattle.exported.specs.Telling.{told}
 use Rattle.exported_costs.proofs.Handed.{asked_of}
-use Rattle.exported_batches.specs.Answers.{source_of, prices_told, survival_told, gated_told, values_left, widths_left}
-
-module _ (k : ℕ) where
-  pub roofline : k ≡ 0 → Roofline ≡ source_of k
-  unfolding source_of
-  roofline h = rw (eq-eqb k 0 h)
-
-  pub table : (k ≡ 0 → ⊥) → Table ≡ source_of k
-  unfolding source_of
-  table n = rw (ne_eqb k 0 n)
+use Rattle.exported_batches.specs.Answers.{prices_told, survival_told, gated_told, values_left, widths_left}
 
 module _ (at : ℕ) (prices : List Float) where
   pub price_there : (bits : ℕ) → (r : Told) → r ≡ told 0 (length prices) bits → bits ≡ to_bits binary64 (get_or prices at nan) → at < length prices → r ≡ prices_told at prices
@@ -54,13 +45,13 @@ front_short signal front e = rw e (simp length-take (omega arith))
 abbrev left_of : List Float → ℕ → ℕ × List Float
 left_of out r = (r, out)
 
-pub values_handed : (r : ℕ) → (x : Answer) → (out : List Float) → (o : Values) → r ≡ answer_number x → record { answer = x; out = out } ≡ o → (r, out) ≡ values_left o
+pub values_handed : (r : ℕ) → (x : Judgement) → (out : List Float) → (o : Values) → r ≡ answer_number x → record { answer = x; out = out } ≡ o → (r, out) ≡ values_left o
 values_handed r x out o h e = ap (left_of out) h ∙ ap values_left e
 
 abbrev told_of : List ℕ → Told → Told × List ℕ
 told_of widths r = (r, widths)
 
-pub widths_handed : (r : Told) → (x : Gated) → (widths : List ℕ) → (o : Left) → r ≡ gated_told x → record { answer = x; widths = widths } ≡ o → (r, widths) ≡ widths_left o
+pub widths_handed : (r : Told) → (x : Result ℕ Refusal) → (widths : List ℕ) → (o : Left) → r ≡ gated_told x → record { answer = x; widths = widths } ≡ o → (r, widths) ≡ widths_left o
 widths_handed r x widths o h e = ap (told_of widths) h ∙ ap widths_left e
 
 -- a gate for a drafter, rates and a mode that are known

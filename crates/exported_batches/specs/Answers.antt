@@ -1,20 +1,15 @@
 -- What is told of each answer, and what is left of a lent buffer; floats by their bits. Two cases that plain numbers stand for. Assumes nothing.
-use Rattle.std.specs.Prelude.{ℕ, cond, List, eqb, ltb, length, get_or, Float}
+use Rattle.std.specs.Prelude.{ℕ, cond, List, eqb, ltb, length, get_or, Float, Result, Ok, Err}
 use Rattle.std.specs.Float.{nan, binary64}
 use Rattle.std.specs.Float.Ieee.{to_bits}
+use Rattle.refusals.specs.declared.Refusal.{Refusal}
 use Rattle.goodput.specs.declared.curve.Source.{Source}
 use Rattle.goodput.specs.declared.curve.Source.TheVariants.{Roofline, Table}
 use Rattle.goodput.specs.declared.survival.Survival.{Survival}
-use Rattle.goodput.specs.declared.pricing.Cost.{Cost}
-use Rattle.goodput.specs.declared.pricing.Cost.TheVariants.{Seconds, Refused as NoCost}
-use Rattle.goodput.specs.declared.depth.Depth.{Depth}
-use Rattle.goodput.specs.declared.depth.Depth.TheVariants.{Best, Refused as NoDepth}
 use Rattle.goodput.specs.Expected.{Left as Values, answer_number}
-use Rattle.gates.specs.declared.Gated.{Gated}
-use Rattle.gates.specs.declared.Gated.TheVariants.{Weighed, Refused as NotGated}
 use Rattle.gates.specs.Entry.{Left}
 use Rattle.exported.specs.declared.Told.{Told}
-use Rattle.exported.specs.Telling.{told}
+use Rattle.exported.specs.Telling.{told, refused_told}
 
 -- the source of a number, any but 0 the table
 unfoldable pub source_of : ℕ → Source
@@ -29,18 +24,18 @@ unfoldable pub survival_told : ℕ → Survival → Told
 survival_told at s = told s.refusal (cond (ltb at 64) (to_bits binary64 (get_or s.chain at nan)) 0) 0
 
 -- the seconds
-unfoldable pub cost_told : Cost → Told
-cost_told (Seconds x) = told 0 (to_bits binary64 x) 0
-cost_told (NoCost number) = told number 0 0
+unfoldable pub cost_told : Result Float Refusal → Told
+cost_told (Ok x) = told 0 (to_bits binary64 x) 0
+cost_told (Err refusal) = refused_told refusal
 
-unfoldable pub depth_told : Depth → Told
-depth_told (Best depth) = told 0 depth 0
-depth_told (NoDepth number) = told number 0 0
+unfoldable pub depth_told : Result ℕ Refusal → Told
+depth_told (Ok depth) = told 0 depth 0
+depth_told (Err refusal) = refused_told refusal
 
 -- the slots weighed
-unfoldable pub gated_told : Gated → Told
-gated_told (Weighed slots) = told 0 slots 0
-gated_told (NotGated number) = told number 0 0
+unfoldable pub gated_told : Result ℕ Refusal → Told
+gated_told (Ok slots) = told 0 slots 0
+gated_told (Err refusal) = refused_told refusal
 
 -- the number of the refusal, 0 for none, and the values
 abbrev pub values_left : Values → ℕ × List Float

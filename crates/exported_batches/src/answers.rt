@@ -3,22 +3,21 @@ ghost use Rattle.std.specs.Prelude.{◌≡◌};
 ghost use Rattle.goodput.specs.Expected.{answer_number};
 ghost use Rattle.exported_batches.specs.Answers.{source_of, prices_told, cost_told, depth_told, gated_told};
 
-use exported::Told;
+use exported::{Told, refused_told};
 use exported_costs::answers;
-use gates::Gated;
 use goodput::curve::Source;
-use goodput::depth::Depth;
-use goodput::expected::Answer;
-use goodput::pricing::Cost;
+use refusals::Refusal;
 
 // 0 the roofline, any other number the table.
+#[tactic(auto, unfolding(crate::specs::Answers::source_of))]
 pub fn source_of(source: u32) -> Source
     ensures { result ≡ source_of source }
 {
     if source == 0 {
-        return Source::Roofline;
+        Source::Roofline
+    } else {
+        Source::Table
     }
-    Source::Table
 }
 
 pub fn of_prices(prices: &[f64], at: usize) -> Told
@@ -33,38 +32,38 @@ pub fn of_prices(prices: &[f64], at: usize) -> Told
 }
 
 // The number of the refusal, 0 for none.
-pub fn of_answer(answer: Answer) -> u64
+pub fn of_answer(answer: Result<(), Refusal>) -> u64
     ensures { result ≡ answer_number answer }
 {
-    match answer {
-        Answer::Written => 0,
-        Answer::Refused(number) => number,
-    }
+    refusals::number_in(answer)
 }
 
-pub fn of_cost(answer: Cost) -> Told
+#[tactic(auto, unfolding(crate::specs::Answers::cost_told))]
+pub fn of_cost(answer: Result<f64, Refusal>) -> Told
     ensures { result ≡ cost_told answer }
 {
     match answer {
-        Cost::Seconds(x) => answers::tell_float(x),
-        Cost::Refused(number) => answers::refused(number),
+        Ok(seconds) => answers::tell_float(seconds),
+        Err(refusal) => refused_told(refusal),
     }
 }
 
-pub fn of_depth(answer: Depth) -> Told
+#[tactic(auto, unfolding(crate::specs::Answers::depth_told))]
+pub fn of_depth(answer: Result<u32, Refusal>) -> Told
     ensures { result ≡ depth_told answer }
 {
     match answer {
-        Depth::Best(depth) => answers::tell(depth as u64, 0),
-        Depth::Refused(number) => answers::refused(number),
+        Ok(depth) => answers::tell(depth as u64, 0),
+        Err(refusal) => refused_told(refusal),
     }
 }
 
-pub fn of_gated(answer: Gated) -> Told
+#[tactic(auto, unfolding(crate::specs::Answers::gated_told))]
+pub fn of_gated(answer: Result<usize, Refusal>) -> Told
     ensures { result ≡ gated_told answer }
 {
     match answer {
-        Gated::Weighed(slots) => answers::tell(slots as u64, 0),
-        Gated::Refused(number) => answers::refused(number),
+        Ok(slots) => answers::tell(slots as u64, 0),
+        Err(refusal) => refused_told(refusal),
     }
 }

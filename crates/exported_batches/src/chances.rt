@@ -30,10 +30,8 @@ fn slots_of(confidences: &[f64]) -> [f64; 64]
     ensures { result ≡ slots confidences.now }
 {
     let mut out = [0.0; 64];
-    let mut d = 0usize;
-    while d < confidences.len() {
+    for d in 0..confidences.len() {
         out[d] = confidences[d];
-        d += 1;
     }
     out
 }
@@ -46,17 +44,16 @@ pub extern "C" fn goodput_survival_chain(signal: &[f64], length: usize, at: usiz
     let confidences = front(signal);
     let held = slots_of(confidences);
     let found = survival::survival_chain(held, length);
-    let refusal = found.refusal;
-    if at < 64 {
-        let slot = found.chain[at];
-        let first = float::bits(slot);
-        return Told {
-            refusal,
-            first,
-            second: 0,
-        };
+    let first = if at < 64 {
+        float::bits(found.chain[at])
+    } else {
+        0
+    };
+    Told {
+        refusal: found.refusal,
+        first,
+        second: 0,
     }
-    exported_costs::answers::refused(refusal)
 }
 
 // `first` is how many prices there are, and `second` the one at `at`, 0 past the last.

@@ -3,8 +3,8 @@
 ghost use Rattle.std.specs.Prelude.{◌≤◌, length};
 
 use cases::{answers, lists, tally, words};
-use gates::Gated;
 use plan_words::{drafters, lent_chains};
+use refusals::Refusal;
 use verify_prices::inner::mode_of;
 
 // What each slot of widths holds before a call.
@@ -131,7 +131,7 @@ fn gate(
     curve: &[f64],
     loaded: &[f64],
     widths: &mut [u32],
-) -> Gated {
+) -> Result<usize, Refusal> {
     let gamma = words::whole_at(input, 9);
     let mode = mode_of(words::whole_at(input, MODE));
     let head = drafters::drafter_of(input);
@@ -147,11 +147,11 @@ fn gate(
 }
 
 // The refusal, and the slots weighed.
-fn put_gated(ours: &mut [u64], gated: Gated) -> usize
+fn put_gated(ours: &mut [u64], gated: Result<usize, Refusal>) -> usize
     ensures { result ≤ length ours.new }
 {
     match gated {
-        Gated::Weighed(weighed) => answers::two(ours, 0, weighed as u64),
-        Gated::Refused(number) => answers::two(ours, number, 0),
+        Ok(weighed) => answers::two(ours, 0, weighed as u64),
+        Err(refusal) => answers::two(ours, refusal.number(), 0),
     }
 }

@@ -51,9 +51,7 @@ fn replay(
     let mut counts = [0u64; 78];
     let mut end = case_files::refill(file, room, 0, 0);
     let mut at = case_files::print_line(rt, &room[..end]);
-    let mut turns = 0u64;
-    while turns < MOST_CASES {
-        turns += 1;
+    for _ in 0..MOST_CASES {
         let case = cases::line::next(file, room, words, at, end);
         if case.kind == 0 {
             finish(rt, case, &counts);
@@ -97,11 +95,9 @@ fn judge(case: Case, letter: u8, words: &[u64], ours: &[u64], counts: &mut [u64]
 fn answer(kind: u8, input: &[u64], chains: &mut [f64], ours: &mut [u64]) -> usize
     ensures { result ≤ length ours.new }
 {
-    if kind == b'r' {
-        return gate_cases::batch(kind, input, chains, ours);
+    if matches!(kind, b'r' | b'v') {
+        gate_cases::batch(kind, input, chains, ours)
+    } else {
+        0
     }
-    if kind == b'v' {
-        return gate_cases::batch(kind, input, chains, ours);
-    }
-    0
 }

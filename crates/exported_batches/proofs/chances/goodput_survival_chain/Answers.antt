@@ -1,5 +1,5 @@
 -- `goodput_survival_chain` meets its contract: the chain of the slots, and one of it. Assumes nothing.
-use mathlib.Core.Path.{ap, ◌∙◌}
+use mathlib.Core.Path.{refl, ap, ◌∙◌}
 use mathlib.Core.List.{List}
 use lib.Ieee.{Float}
 use Rattle.rounds.specs.Signals.{slots}
@@ -16,8 +16,8 @@ returns-then-at-lt64 c =
     let same = c.survival_chain-found.ensures ∙ ap (λ (s : List Float). survival_of s a.length) (c.slots_of-held.ensures ∙ ap slots c.front-confidences.ensures) in
     slot_there a.at _ _ _ same c.bits-first.ensures c.if-at-lt64.true
 
-pub returns : goal.returns
-returns c =
+pub returns-else-at-lt64 : goal.returns-else-at-lt64
+returns-else-at-lt64 c =
     let a = c.args in
     let same = c.survival_chain-found.ensures ∙ ap (λ (s : List Float). survival_of s a.length) (c.slots_of-held.ensures ∙ ap slots c.front-confidences.ensures) in
-    slot_nowhere a.at _ _ _ same c.refused.ensures c.if-at-lt64.false
+    slot_nowhere a.at _ _ _ same refl c.if-at-lt64.false
