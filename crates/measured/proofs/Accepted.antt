@@ -20,10 +20,8 @@ use Rattle.cost_rows.proofs.Sorting.{sorted_length}
 use Rattle.cost_rows.proofs.Composed.{read_back, arranged, kept_fewer, over_over}
 use Rattle.cost_rows.proofs.Pruned.{stays_nonempty}
 use Rattle.std.proofs.Common.{Some, None, Ok, Err}
-use Rattle.refusals.specs.declared.Refusal.{Refusal}
-use Rattle.refusals.specs.declared.Refusal.TheVariants.{NotAscii, EmptyText, WrongHeader, FieldCount, StepSeconds, NoDrafts, NoRows, Size, ShortBuffer, NoSaneRows}
+use Rattle.refusals.specs.declared.Refusal.TheVariants.{NotAscii, EmptyText, WrongHeader, NoRows, Size, ShortBuffer}
 use Rattle.refusals.specs.declared.RefusedRow.{RefusedRow}
-use Rattle.table_line.specs.declared.line.Row.{Row as RowSaid}
 use Rattle.table_line.specs.Line.{Line, line_read}
 use Rattle.measured.specs.Judge.{Answer, refused, header_right, rows_in, unless_refused, judge_rows, judge_lines, judged}
 use Rattle.measured.specs.Fill.{row_of, rows_of, Put, PutAt, kept_over, Cleaned, cleaned_to, Outcome, leaves, answered, table_read}

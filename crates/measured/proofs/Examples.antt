@@ -8,12 +8,11 @@ use Rattle.decimals.specs.Decimals.{decimal_of}
 use Rattle.cost_rows.specs.Table.{over}
 use Rattle.cost_rows.specs.Order.{sorted, insert, earlier, before}
 use Rattle.cost_rows.specs.Prune.{kept, dropped, above}
-use Rattle.std.proofs.Common.{Some, None, Ok, Err}
+use Rattle.std.proofs.Common.{Ok}
 use Rattle.refusals.specs.declared.Refusal.{Refusal}
-use Rattle.refusals.specs.declared.Refusal.TheVariants.{NotAscii, EmptyText, WrongHeader, FieldCount, StepSeconds, NoDrafts, NoRows, Size, ShortBuffer, NoSaneRows}
-use Rattle.refusals.specs.declared.RefusedRow.{RefusedRow}
+use Rattle.refusals.specs.declared.Refusal.TheVariants.{NotAscii, EmptyText, WrongHeader, FieldCount, StepSeconds, NoDrafts, NoRows, ShortBuffer}
 use Rattle.table_line.specs.Line.{values_read, numbers_read, row_read, line_read}
-use Rattle.measured.specs.Judge.{Answer, refused as refused_at, batch_name, tokens_name, seconds_name, header_right, judge_lines, judged}
+use Rattle.measured.specs.Judge.{refused as refused_at, batch_name, tokens_name, seconds_name, header_right, judge_lines, judged}
 use Rattle.measured.specs.Fill.{rows_of, Outcome, table_read}
 
 -- `batch_size,num_draft_tokens,step_seconds`, a line feed, and the text

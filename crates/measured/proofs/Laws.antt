@@ -6,15 +6,13 @@ use Prim.Native.Nat.{ℕ, suc, ◌+◌, ◌≤◌, ◌<◌}
 use native.Mathlib.Numerals.{add-one}
 use native.Mathlib.Omega.{arith}
 use borrow.Author.Tests.{le-leb, lt-leb, eq-eqb, ne_eqb}
-use lib.Ieee.{Float}
 use lib.ListN.{length}
 use Rattle.text.specs.Lines.{lines}
 use Rattle.text.specs.Fields.{fields}
 use Rattle.blocks.specs.Blocks.{all_ascii}
 use Rattle.std.proofs.Common.{Some, None, Ok, Err}
 use Rattle.refusals.specs.declared.Refusal.{Refusal}
-use Rattle.refusals.specs.declared.Refusal.TheVariants.{NotAscii, EmptyText, WrongHeader, FieldCount, StepSeconds, NoDrafts, NoRows, Size, ShortBuffer, NoSaneRows}
-use Rattle.refusals.specs.declared.RefusedRow.{RefusedRow}
+use Rattle.refusals.specs.declared.Refusal.TheVariants.{NotAscii, EmptyText, WrongHeader, NoRows, Size, ShortBuffer, NoSaneRows}
 use Rattle.table_line.specs.declared.line.Row.{Row as RowSaid}
 use Rattle.table_line.specs.Line.{Line, line_read}
 use Rattle.measured.specs.Judge.{Answer, refused, batch_name, tokens_name, seconds_name, named, header_right, rows_in, unless_refused, judge_rows, judge_lines, judged}

@@ -24,9 +24,8 @@ use Rattle.cost_rows.proofs.Pruned.{stays_nonempty}
 use Rattle.cost_rows.proofs.Ordered.{test, sorted_ordered, kept_ordered}
 use Rattle.std.proofs.Common.{Some, None, Result, Ok, Err}
 use Rattle.refusals.specs.declared.Refusal.{Refusal}
-use Rattle.refusals.specs.declared.Refusal.TheVariants.{NotAscii, EmptyText, WrongHeader, FieldCount, StepSeconds, NoDrafts, NoRows, Size, ShortBuffer, NoSaneRows}
-use Rattle.refusals.specs.declared.RefusedRow.{RefusedRow}
-use Rattle.refusals.specs.Refusals.{number_in, number_of}
+use Rattle.refusals.specs.declared.Refusal.TheVariants.{NotAscii, WrongHeader, NoRows, Size, ShortBuffer}
+use Rattle.refusals.specs.Refusals.{number_in}
 use Rattle.numeral.specs.Spelling.{Whole, whole_of, of_digits}
 use Rattle.decimals.specs.Decimals.{Decimal, decimal_of, unsigned_of, of_parts, is_too_long}
 use Rattle.table_line.specs.declared.line.Row.{Row as RowSaid}

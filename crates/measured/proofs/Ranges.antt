@@ -24,10 +24,7 @@ use Rattle.cost_rows.specs.Order.{earlier, insert, sorted}
 use Rattle.cost_rows.specs.Prune.{dropped, kept}
 use Rattle.cost_rows.proofs.Ordered.{test}
 use Rattle.cost_rows.specs.Lawful.{largest, in_range, all_in_range}
-use Rattle.std.proofs.Common.{Some, None, Ok, Err}
-use Rattle.refusals.specs.declared.Refusal.{Refusal}
-use Rattle.refusals.specs.declared.Refusal.TheVariants.{NotAscii, EmptyText, WrongHeader, FieldCount, StepSeconds, NoDrafts, NoRows, Size, ShortBuffer, NoSaneRows}
-use Rattle.refusals.specs.declared.RefusedRow.{RefusedRow}
+use Rattle.std.proofs.Common.{Ok, Err}
 use Rattle.numeral.specs.Spelling.{Whole}
 use Rattle.decimals.specs.Decimals.{Decimal}
 use Rattle.table_line.specs.Line.{said, whole_at, decimal_at, values_read, numbers_read, row_read, line_read}

@@ -5,7 +5,6 @@ use Rattle.cost_rows.specs.Table.{Row, over}
 use Rattle.cost_rows.specs.Order.{sorted}
 use Rattle.cost_rows.specs.Prune.{kept}
 use Rattle.refusals.specs.declared.Refusal.TheVariants.{NoSaneRows}
-use Rattle.refusals.specs.declared.RefusedRow.{RefusedRow}
 use Rattle.table_line.specs.Line.{Line, line_read}
 use Rattle.measured.specs.Judge.{Answer, refused, judged}
 

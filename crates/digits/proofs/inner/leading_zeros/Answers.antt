@@ -1,5 +1,5 @@
 -- `digits::leading_zeros` meets its contract: the count is the place of the first byte that is no zero. Assumes nothing.
-use Rattle.std.proofs.Common.{rules, tests, ◌≡◌, ◌∙◌, not, position}
+use Rattle.std.proofs.Common.{rules, tests, ◌∙◌, not, position}
 use Rattle.std.proofs.lemmas.Iterator.{YieldsList-from_slice}
 use Rattle.std.proofs.lemmas.Iterator.Search.{position_from_yields_List}
 use Rattle.digits.specs.Digits.{is_zero}
