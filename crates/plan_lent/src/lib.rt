@@ -8,11 +8,7 @@ pub mod settles;
 
 // Whether a turn of a letter sets something: `r` sets registers and `l` a list.
 pub fn is_setting(letter: u8) -> bool {
-    match letter {
-        b'r' => true,
-        b'l' => true,
-        _ => false,
-    }
+    matches!(letter, b'r' | b'l')
 }
 
 // Sets what the letter says.

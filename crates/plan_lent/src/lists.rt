@@ -4,6 +4,7 @@ ghost use Rattle.std.specs.Prelude.{◌≤◌};
 
 use crate::registers;
 use cases::words;
+use cases::words::Word;
 
 // As many as there are.
 pub const LISTS: usize = 11;
@@ -17,13 +18,7 @@ pub const WHOLES: usize = 75776;
 const FIRST: usize = 4;
 
 fn is_of_wholes(list: usize) -> bool {
-    match list {
-        2 => true,
-        3 => true,
-        6 => true,
-        10 => true,
-        _ => false,
-    }
+    matches!(list, 2 | 3 | 6 | 10)
 }
 
 // Where a list's part starts in its room.
@@ -91,104 +86,59 @@ pub fn set(call: &[u64], registers: &mut [u64], floats: &mut [f64], wholes: &mut
     let length = words::at(call, 2);
     registers::set_length(registers, list, length);
     if is_of_wholes(list) {
-        fill_wholes(call, start(list), length, wholes);
+        fill(call, start(list), length, wholes);
     } else {
-        fill_floats(call, start(list), length, floats);
+        fill(call, start(list), length, floats);
     }
 }
 
 // The turn behind one, of so many.
 fn behind(turn: usize, given: usize) -> usize {
-    if given <= turn {
-        return 0;
-    }
-    if given - turn <= 1 {
+    if given <= turn || given - turn <= 1 {
         return 0;
     }
     turn + 1
 }
 
 fn word(call: &[u64], turn: usize) -> u64 {
-    if call.len() <= turn {
-        return 0;
-    }
-    if call.len() - turn <= FIRST {
+    if call.len() <= turn || call.len() - turn <= FIRST {
         return 0;
     }
     call[FIRST + turn]
 }
 
-fn fill_floats(call: &[u64], start: usize, length: u64, out: &mut [f64]) {
+// So many of the call's words, in turn, from a place of the room on; what is past the room is left out.
+fn fill<T: Word>(call: &[u64], start: usize, length: u64, room: &mut [T]) {
     let given = words::least_at(call, 3, FLOATS);
+    let length = length as usize;
     let mut turn = 0usize;
-    let mut at = start;
-    let mut k = 0u64;
-    while k < length {
-        k += 1;
-        if out.len() <= at {
-            return;
-        }
-        out[at] = float::of_bits(word(call, turn));
-        at += 1;
+    for slot in entries_mut(room, start, length) {
+        *slot = T::of_word(word(call, turn));
         turn = behind(turn, given);
     }
-}
-
-fn fill_wholes(call: &[u64], start: usize, length: u64, out: &mut [u32]) {
-    let given = words::least_at(call, 3, FLOATS);
-    let mut turn = 0usize;
-    let mut at = start;
-    let mut k = 0u64;
-    while k < length {
-        k += 1;
-        if out.len() <= at {
-            return;
-        }
-        out[at] = low(word(call, turn));
-        at += 1;
-        turn = behind(turn, given);
-    }
-}
-
-fn low(word: u64) -> u32 {
-    (word % 4294967296) as u32
 }
 
 // A list of floats.
 pub fn floats<'a>(registers: &[u64], room: &'a [f64], list: usize) -> &'a [f64] {
     let length = registers::length_of(registers, list);
-    float_part(room, start(list), length as usize)
+    entries(room, start(list), length as usize)
 }
 
 // A list of whole numbers.
 pub fn wholes<'a>(registers: &[u64], room: &'a [u32], list: usize) -> &'a [u32] {
     let length = registers::length_of(registers, list);
-    whole_part(room, start(list), length as usize)
+    entries(room, start(list), length as usize)
 }
 
 // So many entries from a place on, or as many as there are.
-fn float_part<'a>(room: &'a [f64], at: usize, count: usize) -> &'a [f64] {
-    if room.len() <= at {
-        let end = room.len();
-        return &room[end..];
-    }
-    let rest = &room[at..];
-    if count < rest.len() {
-        &rest[..count]
-    } else {
-        rest
-    }
+fn entries<T>(room: &[T], at: usize, count: usize) -> &[T] {
+    let rest = &room[at.min(room.len())..];
+    &rest[..count.min(rest.len())]
 }
 
-fn whole_part<'a>(room: &'a [u32], at: usize, count: usize) -> &'a [u32] {
-    if room.len() <= at {
-        let end = room.len();
-        return &room[end..];
-    }
-    let rest = &room[at..];
-    if count < rest.len() {
-        &rest[..count]
-    } else {
-        rest
-    }
+fn entries_mut<T>(room: &mut [T], at: usize, count: usize) -> &mut [T] {
+    let start = at.min(room.len());
+    let rest = &mut room[start..];
+    let end = count.min(rest.len());
+    &mut rest[..end]
 }

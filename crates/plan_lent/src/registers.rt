@@ -28,10 +28,8 @@ pub fn put(out: &mut [u64], at: usize, word: u64) {
 // Sets registers from one on, to the words behind its number.
 pub fn set(call: &[u64], registers: &mut [u64]) {
     let first = words::least_at(call, 1, REGISTERS);
-    let mut k = 2usize;
-    while k < call.len() {
-        put(registers, first + (k - 2), call[k]);
-        k += 1;
+    for (k, word) in call.iter().skip(2).enumerate() {
+        put(registers, first + k, *word);
     }
 }
 
@@ -50,28 +48,20 @@ pub fn set_length(registers: &mut [u64], list: usize, length: u64) {
 }
 
 fn model(registers: &[u64]) -> AcceptanceModel {
-    let kind = words::at(registers, 10);
-    if kind == 0 {
-        return AcceptanceModel::Constant(words::float_at(registers, 11));
+    match words::at(registers, 10) {
+        0 => AcceptanceModel::Constant(words::float_at(registers, 11)),
+        1 => AcceptanceModel::PerPosition,
+        _ => AcceptanceModel::Trace,
     }
-    if kind == 1 {
-        return AcceptanceModel::PerPosition;
-    }
-    AcceptanceModel::Trace
 }
 
 fn policy(registers: &[u64]) -> Policy {
-    let policy = words::at(registers, 12);
-    if policy == 0 {
-        return Policy::Fixed;
+    match words::at(registers, 12) {
+        0 => Policy::Fixed,
+        1 => Policy::GoodputBudget,
+        2 => Policy::GatedBudget,
+        _ => Policy::GatedAggregate,
     }
-    if policy == 1 {
-        return Policy::GoodputBudget;
-    }
-    if policy == 2 {
-        return Policy::GatedBudget;
-    }
-    Policy::GatedAggregate
 }
 
 fn max_step(registers: &[u64]) -> MaxStep {
