@@ -28,13 +28,15 @@ fn is_large_day(rt: HostRuntime, path: &[u8]) -> bool {
 }
 
 fn reads_large(rt: HostRuntime, path: &[u8], room: &mut [u8]) -> bool {
-    let read = files::read(rt, path, room);
-    let bytes = read.bytes;
-    names_large(rt, path, &room[0..bytes])
+    match files::read(rt, path, room) {
+        Some(bytes) => names_large(rt, path, &room[..bytes]),
+        None => false,
+    }
 }
 
 fn names_large(rt: HostRuntime, path: &[u8], day: &[u8]) -> bool {
     let mut rest = day;
+    // no index is counted: each turn takes the rest behind a line
     while 0 < rest.len() {
         let line = fronts::front(rest);
         let stop = line.stop;
@@ -49,17 +51,17 @@ fn names_large(rt: HostRuntime, path: &[u8], day: &[u8]) -> bool {
 
 fn line_names_large(rt: HostRuntime, path: &[u8], line: &[u8]) -> bool {
     match day_names::command_of(line) {
-        Command::Table => files::is_longer_beside(rt, path, day_line::field(line, 1), SMALL),
-        Command::Acceptance => acceptance_names_large(rt, path, line),
+        Some(Command::Table) => files::is_longer_beside(rt, path, day_line::field(line, 1), SMALL),
+        Some(Command::Acceptance) => acceptance_names_large(rt, path, line),
         _ => false,
     }
 }
 
 fn acceptance_names_large(rt: HostRuntime, path: &[u8], line: &[u8]) -> bool {
     match day_names::acceptance_of(day_line::field(line, 1)) {
-        AcceptanceName::Trace => files::is_longer_beside(rt, path, day_line::field(line, 2), SMALL),
-        AcceptanceName::Constant => false,
-        AcceptanceName::PerPosition => false,
-        AcceptanceName::Unknown => false,
+        Some(AcceptanceName::Trace) => {
+            files::is_longer_beside(rt, path, day_line::field(line, 2), SMALL)
+        }
+        _ => false,
     }
 }

@@ -44,7 +44,8 @@ fn fresh(
     let mut set = [0u64; 33];
     let mut clock = [0u64; 66];
     let mut page = [0u8; 65536];
-    ledger::fresh(&mut storage);
+    // The words are enough, so that it is not refused.
+    let _ = ledger::fresh(&mut storage);
     day_file(
         rt,
         path,
@@ -74,13 +75,11 @@ fn day_file(
     page: &mut [u8],
 ) -> u64 {
     let start = start(rt, path, named, page);
-    let read = files::read(rt, path, day);
-    let bytes = read.bytes;
-    if read.readable {
-        let turn = lines(
+    let turn = match files::read(rt, path, day) {
+        Some(bytes) => lines(
             start,
             path,
-            &day[0..bytes],
+            &day[..bytes],
             set,
             floats,
             wholes,
@@ -88,11 +87,10 @@ fn day_file(
             clock,
             file,
             page,
-        );
-        finish(turn, page)
-    } else {
-        finish(turns::unreadable(start, path, page), page)
-    }
+        ),
+        None => turns::unreadable(start, path, page),
+    };
+    finish(turn, page)
 }
 
 // The day file's name goes first where there are several.
@@ -118,11 +116,12 @@ fn lines(
 ) -> Turn {
     let mut turn = start;
     let mut rest = day;
+    // no index is counted: each turn takes the rest behind a line
     while 0 < rest.len() {
         let line = fronts::front(rest);
         let stop = line.stop;
         let next = line.next;
-        let behind = commands::run(
+        turn = commands::run(
             turns::next(turn),
             path,
             &rest[0..stop],
@@ -134,7 +133,6 @@ fn lines(
             file,
             page,
         );
-        turn = behind;
         rest = &rest[next..];
     }
     turn

@@ -1,7 +1,6 @@
 // The other commands that may change what the planner holds: a collection and a withdrawal.
 use day_turns::turns::Turn;
 use day_turns::{turns, values};
-use ledger::answer::{Answer, Found, Stall};
 
 pub fn collect(
     turn: Turn,
@@ -14,17 +13,13 @@ pub fn collect(
     let b = values::whole(line, 2);
     note_change(is_held(storage, a, b), clock);
     match planner::collect(storage, a, b) {
-        Stall::Seconds(seconds) => collected(turn, seconds, page),
-        Stall::Refused(number) => turns::refused(turn, number, 0, page),
+        Ok(seconds) => collected(turn, seconds, page),
+        Err(refusal) => turns::refused(turn, refusal, page),
     }
 }
 
 fn is_held(storage: &[u64], a: u64, b: u64) -> bool {
-    match ledger::worker(storage, a, b) {
-        Found::Held { .. } => true,
-        Found::Unknown => false,
-        Found::Refused(_) => false,
-    }
+    matches!(ledger::worker(storage, a, b), Ok(Some(_)))
 }
 
 // Collecting from a worker that is held is a change, which a withdrawal takes back as it does a plan.
@@ -42,11 +37,11 @@ fn collected(turn: Turn, seconds: f64, page: &mut [u8]) -> Turn {
 
 pub fn withdraw(turn: Turn, storage: &mut [u64], clock: &mut [u64], page: &mut [u8]) -> Turn {
     match planner::withdraw(storage) {
-        Answer::Done => {
+        Ok(()) => {
             day_clock::taken_back(clock);
             withdrawn(turn, page)
         }
-        Answer::Refused(number) => turns::refused(turn, number, 0, page),
+        Err(refusal) => turns::refused(turn, refusal, page),
     }
 }
 

@@ -1,5 +1,4 @@
 // A plan: what the line asks for, and what is told of the answer.
-use day_shapes::Judged;
 use day_turns::turns::Turn;
 use day_turns::{listed, turns, values};
 use planner::Planned;
@@ -18,7 +17,7 @@ pub fn plan(
     page: &mut [u8],
 ) -> Turn {
     match listed::rounds(line, set, floats, wholes) {
-        Judged::Right => make(
+        Ok(()) => make(
             turn,
             asker_of(line),
             set,
@@ -28,7 +27,7 @@ pub fn plan(
             clock,
             page,
         ),
-        Judged::Wrong { field, expected } => turns::wrong(turn, field, expected, page),
+        Err(wrong) => turns::wrong(turn, wrong, page),
     }
 }
 
@@ -81,7 +80,7 @@ fn tell(
             ended(headed, asker.sequences as usize, drafts, commits, page)
         }
         Planned::Empty => empty(turn, page),
-        Planned::Refused(number) => turns::refused(turn, number, 0, page),
+        Planned::Refused(number) => turns::refused_by(turn, number, 0, page),
     }
 }
 
@@ -114,10 +113,7 @@ fn headed(turn: Turn, asker: Asker, draws: u64, slots: u64, page: &mut [u8]) -> 
 
 // What each of so many sequences drafts and commits.
 fn ended(turn: Turn, sequences: usize, drafts: &[u32], commits: &[u32], page: &mut [u8]) -> Turn {
-    if drafts.len() < sequences {
-        return turn;
-    }
-    if commits.len() < sequences {
+    if drafts.len() < sequences || commits.len() < sequences {
         return turn;
     }
     let used = shown::plan_lists(

@@ -3,7 +3,7 @@
 #![tactic(auto)]
 
 use day_turns::turns::Turn;
-use day_turns::{turns, values};
+use day_turns::{lent, turns, values};
 use plan_lent::{registers, settles};
 use settling::Settling;
 
@@ -45,7 +45,7 @@ fn whole(line: &[u8], place: usize) -> u32 {
 
 fn tell(turn: Turn, answer: Settling, widths: &[u32], page: &mut [u8]) -> Turn {
     match answer {
-        Settling::Refused(number) => turns::refused(turn, number, 0, page),
+        Settling::Refused(number) => turns::refused_by(turn, number, 0, page),
         _ => {
             let at = page::make_room(turn.rt, page, turn.used);
             let used = settling_lines::answer(page, at, turn.number, answer, widths);
@@ -64,16 +64,8 @@ fn steps(
     page: &mut [u8],
 ) -> Turn {
     let mut stepped = [0u64; 33];
-    copy(set, &mut stepped);
+    lent::copy_front(set, &mut stepped);
     table(turn, line, &mut stepped, floats, wholes, page)
-}
-
-fn copy(from: &[u64], to: &mut [u64]) {
-    let mut k = 0usize;
-    while k < from.len() {
-        registers::put(to, k, from[k]);
-        k += 1;
-    }
 }
 
 // For the largest steps 1, 2, .. what is answered with each, where it has fewer walks than those before it: up to the first that has one walk.
@@ -88,14 +80,11 @@ fn table(
 ) -> Turn {
     registers::put(set, 14, 1);
     let mut told = Rows { turn, fewest: 65 };
-    let mut step = 0u32;
-    while step < MOST {
-        step += 1;
+    for step in 1..=MOST {
         registers::put(set, 15, step as u64);
-        let next = with_step(told, step, line, set, floats, wholes, page);
-        told = next;
+        told = with_step(told, step, line, set, floats, wholes, page);
         if told.fewest <= 1 {
-            return told.turn;
+            break;
         }
     }
     told.turn

@@ -1,40 +1,27 @@
 // A file read whole, and how long a file is.
 ghost use Rattle.std.specs.Prelude.{◌≤◌, length};
+ghost use Rattle.std.specs.Option.{IfSome};
+ghost use Rattle.io.specs.Counts.{IsPrefixLen};
 
 use std::fs::File;
 use std::io::{Read, Seek, SeekFrom};
 
-// Whether a file was read, and then how many bytes it has, which stand at the front of the room.
-#[derive(Clone, Copy)]
-pub struct Contents {
-    pub readable: bool,
-    pub bytes: usize,
-}
-
-// Reads a file whole. Where that cannot be, standard error has why.
-pub fn read(rt: HostRuntime, path: &[u8], room: &mut [u8]) -> Contents
-    ensures { result.bytes ≤ length room.new }
+// Reads a file whole, and answers how many bytes it has, which stand at the front of the room. Where that cannot be, standard error has why.
+pub fn read(rt: HostRuntime, path: &[u8], room: &mut [u8]) -> Option<usize>
+    ensures { IfSome result (λ n. IsPrefixLen n room.new) }
 {
-    let Some(mut file) = case_files::open(rt, path) else {
-        return unread();
-    };
+    let mut file = case_files::open(rt, path)?;
     let bytes = case_files::fill(&mut file, room);
-    let readable = is_at_end(rt, &mut file, path);
-    Contents { readable, bytes }
-}
-
-fn unread() -> Contents
-    ensures { result.bytes ≤ 0 }
-{
-    Contents {
-        readable: false,
-        bytes: 0,
+    if is_at_end(rt, &mut file, path) {
+        Some(bytes)
+    } else {
+        None
     }
 }
 
 // Reads a file that a day file names, by a path from the day file's folder.
-pub fn read_beside(rt: HostRuntime, day: &[u8], name: &[u8], room: &mut [u8]) -> Contents
-    ensures { result.bytes ≤ length room.new }
+pub fn read_beside(rt: HostRuntime, day: &[u8], name: &[u8], room: &mut [u8]) -> Option<usize>
+    ensures { IfSome result (λ n. IsPrefixLen n room.new) }
 {
     let mut path = [0u8; 4096];
     let n = beside(day, name, &mut path);
@@ -46,10 +33,7 @@ fn beside(day: &[u8], name: &[u8], path: &mut [u8]) -> usize
     ensures { result ≤ length path.new }
 {
     let n = day_paths::beside(day, name, path);
-    if path.len() < n {
-        return 0;
-    }
-    n
+    if n <= path.len() { n } else { 0 }
 }
 
 // Whether a file is longer than so many bytes. One that has no length, as a pipe, may be.

@@ -1,7 +1,9 @@
 // The commands that read a file: a trace bank and a cost table.
 use crate::turns::Turn;
 use crate::{files, turns};
+use bank_judge::BankSize;
 use plan_lent::{lists, registers};
+use refusals::RefusedRow;
 
 // The lists by their numbers, as `plan_lent` has them.
 const DEPTHS: usize = 2;
@@ -28,12 +30,9 @@ pub fn bank(
     page: &mut [u8],
 ) -> Turn {
     let name = day_line::field(line, 2);
-    let read = files::read_beside(turn.rt, day, name, file);
-    let bytes = read.bytes;
-    if read.readable {
-        bank_of(turn, &file[0..bytes], set, floats, wholes, page)
-    } else {
-        turns::unreadable(turn, name, page)
+    match files::read_beside(turn.rt, day, name, file) {
+        Some(bytes) => bank_of(turn, &file[..bytes], set, floats, wholes, page),
+        None => turns::unreadable(turn, name, page),
     }
 }
 
@@ -47,12 +46,12 @@ fn bank_of(
 ) -> Turn {
     let mut curve = [0.0f64; 65];
     match read_bank(text, floats, wholes, &mut curve) {
-        bank_judge::Answer::Bank { depth, rounds } => {
-            keep_bank(depth as u64, rounds as u64, set);
+        Ok(size) => {
+            keep_bank(size, set);
             keep_curve(&curve, set, floats);
-            bank_told(turn, depth as u64, rounds as u64, page)
+            bank_told(turn, size, page)
         }
-        bank_judge::Answer::Refused { number, row } => turns::refused(turn, number, row, page),
+        Err(refused) => turns::refused_at(turn, refused, page),
     }
 }
 
@@ -61,7 +60,7 @@ fn read_bank(
     floats: &mut [f64],
     wholes: &mut [u32],
     curve: &mut [f64],
-) -> bank_judge::Answer {
+) -> Result<BankSize, RefusedRow> {
     let commits = lists::place_of(COMMITS, wholes.len());
     let c = commits.start;
     let d = commits.end;
@@ -72,11 +71,11 @@ fn read_bank(
 }
 
 // The model is a trace of so many rounds; its signals reach as far as they have room.
-fn keep_bank(depth: u64, rounds: u64, set: &mut [u64]) {
+fn keep_bank(size: BankSize, set: &mut [u64]) {
     registers::put(set, 10, 2);
-    registers::put(set, 19, depth);
-    registers::put(set, 20, rounds);
-    registers::set_length(set, COMMITS, rounds);
+    registers::put(set, 19, size.depth as u64);
+    registers::put(set, 20, size.rounds as u64);
+    registers::set_length(set, COMMITS, size.rounds as u64);
     registers::set_length(set, SIGNALS, 4194304);
 }
 
@@ -85,23 +84,18 @@ fn keep_curve(curve: &[f64], set: &mut [u64], floats: &mut [f64]) {
     let part = lists::place_of(CURVE, floats.len());
     let start = part.start;
     let end = part.end;
-    copy_floats(curve, &mut floats[start..end]);
+    copy_front(curve, &mut floats[start..end]);
 }
 
-fn copy_floats(from: &[f64], to: &mut [f64]) {
-    let mut k = 0usize;
-    while k < from.len() {
-        if to.len() <= k {
-            return;
-        }
-        to[k] = from[k];
-        k += 1;
-    }
+// What there is room for, copied to the front.
+pub fn copy_front<T: Copy>(from: &[T], to: &mut [T]) {
+    let n = from.len().min(to.len());
+    to[..n].copy_from_slice(&from[..n]);
 }
 
-fn bank_told(turn: Turn, depth: u64, rounds: u64, page: &mut [u8]) -> Turn {
+fn bank_told(turn: Turn, size: BankSize, page: &mut [u8]) -> Turn {
     let at = page::make_room(turn.rt, page, turn.used);
-    let used = shown::bank(page, at, turn.number, rounds, depth);
+    let used = shown::bank(page, at, turn.number, size.rounds as u64, size.depth as u64);
     turns::done(turn, used)
 }
 
@@ -117,12 +111,9 @@ pub fn table(
     page: &mut [u8],
 ) -> Turn {
     let name = day_line::field(line, 1);
-    let read = files::read_beside(turn.rt, day, name, file);
-    let bytes = read.bytes;
-    if read.readable {
-        table_of(turn, &file[0..bytes], set, floats, wholes, page)
-    } else {
-        turns::unreadable(turn, name, page)
+    match files::read_beside(turn.rt, day, name, file) {
+        Some(bytes) => table_of(turn, &file[..bytes], set, floats, wholes, page),
+        None => turns::unreadable(turn, name, page),
     }
 }
 
@@ -136,12 +127,12 @@ fn table_of(
 ) -> Turn {
     let mut batches = [0u32; 4096];
     match read_table(text, floats, wholes, &mut batches) {
-        measured::Answer::Table { rows } => {
+        Ok(rows) => {
             keep_table(rows as u64, set);
             keep_batches(&batches, wholes);
             table_told(turn, rows as u64, page)
         }
-        measured::Answer::Refused { number, row } => turns::refused(turn, number, row, page),
+        Err(refused) => turns::refused_at(turn, refused, page),
     }
 }
 
@@ -150,7 +141,7 @@ fn read_table(
     floats: &mut [f64],
     wholes: &mut [u32],
     batches: &mut [u32],
-) -> measured::Answer {
+) -> Result<u32, RefusedRow> {
     let depths = lists::place_of(DEPTHS, wholes.len());
     let c = depths.start;
     let d = depths.end;
@@ -172,18 +163,7 @@ fn keep_batches(batches: &[u32], wholes: &mut [u32]) {
     let part = lists::place_of(BATCHES, wholes.len());
     let start = part.start;
     let end = part.end;
-    copy_wholes(batches, &mut wholes[start..end]);
-}
-
-fn copy_wholes(from: &[u32], to: &mut [u32]) {
-    let mut k = 0usize;
-    while k < from.len() {
-        if to.len() <= k {
-            return;
-        }
-        to[k] = from[k];
-        k += 1;
-    }
+    copy_front(batches, &mut wholes[start..end]);
 }
 
 fn table_told(turn: Turn, rows: u64, page: &mut [u8]) -> Turn {

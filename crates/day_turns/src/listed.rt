@@ -1,8 +1,8 @@
 // The commands that set a list which stands on the line, and the lists that a plan brings.
 use crate::turns;
 use crate::turns::Turn;
-use day_lists::Listed;
-use day_shapes::Judged;
+use day_lists::NoList;
+use day_shapes::{Expected, WrongField};
 use plan_lent::{lists, registers};
 use std::num::wrapping_add_u64;
 
@@ -26,11 +26,11 @@ pub fn per_position(
     page: &mut [u8],
 ) -> Turn {
     match decimals(line, 2, POSITIONS, set, floats) {
-        Judged::Right => {
+        Ok(()) => {
             registers::put(set, 10, 1);
             turns::set(turn, line, page)
         }
-        Judged::Wrong { field, expected } => turns::wrong(turn, field, expected, page),
+        Err(wrong) => turns::wrong(turn, wrong, page),
     }
 }
 
@@ -43,11 +43,11 @@ pub fn roofline(
     page: &mut [u8],
 ) -> Turn {
     match decimals(line, 1, ROOFLINE, set, floats) {
-        Judged::Right => {
+        Ok(()) => {
             registers::put(set, 17, 0);
             turns::set(turn, line, page)
         }
-        Judged::Wrong { field, expected } => turns::wrong(turn, field, expected, page),
+        Err(wrong) => turns::wrong(turn, wrong, page),
     }
 }
 
@@ -60,13 +60,18 @@ pub fn loaded(
     page: &mut [u8],
 ) -> Turn {
     match decimals(line, 1, LOADED, set, floats) {
-        Judged::Right => turns::set(turn, line, page),
-        Judged::Wrong { field, expected } => turns::wrong(turn, field, expected, page),
+        Ok(()) => turns::set(turn, line, page),
+        Err(wrong) => turns::wrong(turn, wrong, page),
     }
 }
 
 // The draws of a plan, or its round indices where the model is a trace.
-pub fn rounds(line: &[u8], set: &mut [u64], floats: &mut [f64], wholes: &mut [u32]) -> Judged {
+pub fn rounds(
+    line: &[u8],
+    set: &mut [u64],
+    floats: &mut [f64],
+    wholes: &mut [u32],
+) -> Result<(), WrongField> {
     if cases::words::at(set, 10) == 2 {
         return indices(line, set, wholes);
     }
@@ -74,7 +79,13 @@ pub fn rounds(line: &[u8], set: &mut [u64], floats: &mut [f64], wholes: &mut [u3
 }
 
 // Reads the decimals from a field on into their list.
-fn decimals(line: &[u8], from: usize, list: usize, set: &mut [u64], floats: &mut [f64]) -> Judged {
+fn decimals(
+    line: &[u8],
+    from: usize,
+    list: usize,
+    set: &mut [u64],
+    floats: &mut [f64],
+) -> Result<(), WrongField> {
     let part = lists::place_of(list, floats.len());
     let start = part.start;
     let end = part.end;
@@ -82,7 +93,7 @@ fn decimals(line: &[u8], from: usize, list: usize, set: &mut [u64], floats: &mut
     keep(read, from, end - start, list, set)
 }
 
-fn indices(line: &[u8], set: &mut [u64], wholes: &mut [u32]) -> Judged {
+fn indices(line: &[u8], set: &mut [u64], wholes: &mut [u32]) -> Result<(), WrongField> {
     let part = lists::place_of(INDICES, wholes.len());
     let start = part.start;
     let end = part.end;
@@ -91,16 +102,25 @@ fn indices(line: &[u8], set: &mut [u64], wholes: &mut [u32]) -> Judged {
 }
 
 // Keeps how long a list is that was read; one that is too long for its room has too many fields.
-fn keep(read: Listed, from: usize, room: usize, list: usize, set: &mut [u64]) -> Judged {
+fn keep(
+    read: Result<u64, NoList>,
+    from: usize,
+    room: usize,
+    list: usize,
+    set: &mut [u64],
+) -> Result<(), WrongField> {
     match read {
-        Listed::Count(count) => {
+        Ok(count) => {
             registers::set_length(set, list, count);
-            Judged::Right
+            Ok(())
         }
-        Listed::TooMany => Judged::Wrong {
+        Err(NoList::TooMany) => Err(WrongField {
             field: wrapping_add_u64(from as u64, room as u64),
-            expected: 2,
-        },
-        Listed::NoList { field, expected } => Judged::Wrong { field, expected },
+            expected: Expected::NoMoreFields,
+        }),
+        Err(NoList::Wrong(wrong)) => Err(WrongField {
+            field: wrong.field,
+            expected: Expected::Number(wrong.refusal),
+        }),
     }
 }

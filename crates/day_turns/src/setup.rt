@@ -16,11 +16,10 @@ pub fn policy(turn: Turn, line: &[u8], set: &mut [u64], page: &mut [u8]) -> Turn
 
 fn policy_number(line: &[u8]) -> u64 {
     match day_names::policy_of(day_line::field(line, 1)) {
-        PolicyName::Fixed => 0,
-        PolicyName::GoodputBudget => 1,
-        PolicyName::GatedBudget => 2,
-        PolicyName::GatedAggregate => 3,
-        PolicyName::Unknown => 0,
+        Some(PolicyName::Fixed) | None => 0,
+        Some(PolicyName::GoodputBudget) => 1,
+        Some(PolicyName::GatedBudget) => 2,
+        Some(PolicyName::GatedAggregate) => 3,
     }
 }
 
@@ -34,18 +33,14 @@ pub fn constant(turn: Turn, line: &[u8], set: &mut [u64], page: &mut [u8]) -> Tu
 // Cooldown rounds, the largest step or none, and the cost in milliseconds.
 pub fn switch(turn: Turn, line: &[u8], set: &mut [u64], page: &mut [u8]) -> Turn {
     registers::put(set, 13, values::whole(line, 1));
-    registers::put(set, 14, is_limited(line));
+    registers::put(set, 14, is_limited(line) as u64);
     registers::put(set, 15, values::whole(line, 2));
     registers::put(set, 16, values::bits(line, 3));
     turns::set(turn, line, page)
 }
 
-fn is_limited(line: &[u8]) -> u64 {
-    if day_names::is_none(day_line::field(line, 2)) {
-        0
-    } else {
-        1
-    }
+fn is_limited(line: &[u8]) -> bool {
+    !day_names::is_none(day_line::field(line, 2))
 }
 
 // Peak, bw and kv_delta.
@@ -64,19 +59,18 @@ pub fn prices(turn: Turn, line: &[u8], set: &mut [u64], page: &mut [u8]) -> Turn
 
 fn prices_number(line: &[u8]) -> u64 {
     match day_names::prices_of(day_line::field(line, 1)) {
-        PricesName::Default => 0,
-        PricesName::Bridged => 1,
-        PricesName::Unknown => 0,
+        Some(PricesName::Default) | None => 0,
+        Some(PricesName::Bridged) => 1,
     }
 }
 
 pub fn drafter(turn: Turn, line: &[u8], set: &mut [u64], page: &mut [u8]) -> Turn {
     match day_names::drafter_of(day_line::field(line, 1)) {
-        DrafterName::Fraction => fraction(turn, line, set, page),
-        DrafterName::Autoregressive => autoregressive(turn, line, set, page),
-        DrafterName::BlockParallel => block_parallel(turn, line, set, page),
-        DrafterName::Absent => absent(turn, line, set, page),
-        DrafterName::Unknown => turns::wrong(turn, 1, 3, page),
+        Some(DrafterName::Fraction) => fraction(turn, line, set, page),
+        Some(DrafterName::Autoregressive) => autoregressive(turn, line, set, page),
+        Some(DrafterName::BlockParallel) => block_parallel(turn, line, set, page),
+        Some(DrafterName::Absent) => absent(turn, line, set, page),
+        None => turns::unnamed(turn, page),
     }
 }
 

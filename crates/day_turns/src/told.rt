@@ -1,17 +1,15 @@
 // The commands that tell what the planner holds: the series and the day figure.
 use crate::turns;
 use crate::turns::Turn;
-use ledger::answer::{Count, Figure};
-use ledger_sums::answer::Sums;
 
 // Each second with its sums and means.
 pub fn series(turn: Turn, storage: &[u64], page: &mut [u8]) -> Turn {
     match ledger::seconds_held(storage) {
-        Count::Is(seconds) => {
+        Ok(seconds) => {
             let headed = headed(turn, seconds, page);
             rows(headed, seconds, storage, page)
         }
-        Count::Refused(number) => turns::refused(turn, number, 0, page),
+        Err(refusal) => turns::refused(turn, refusal, page),
     }
 }
 
@@ -23,39 +21,30 @@ fn headed(turn: Turn, seconds: u64, page: &mut [u8]) -> Turn {
 
 fn rows(start: Turn, seconds: u64, storage: &[u64], page: &mut [u8]) -> Turn {
     let mut turn = start;
-    let mut k = 0u64;
-    while k < seconds {
-        let next = row(turn, k, storage, page);
-        turn = next;
-        k += 1;
+    for k in 0..seconds {
+        turn = row(turn, k, storage, page);
     }
     turn
 }
 
 fn row(turn: Turn, k: u64, storage: &[u64], page: &mut [u8]) -> Turn {
     match ledger_sums::sums(storage, k) {
-        Sums::Of {
-            second,
-            drafts,
-            sequences,
-            committed,
-            steps,
-        } => {
+        Ok(Some(sums)) => {
             let at = page::make_room(turn.rt, page, turn.used);
             let used = series_lines::series_row(
                 page,
                 at,
                 turn.number,
-                second,
-                drafts,
-                sequences,
-                committed,
-                steps,
+                sums.second,
+                sums.drafts,
+                sums.sequences,
+                sums.committed,
+                sums.steps,
             );
             turns::done(turn, used)
         }
-        Sums::Past => turn,
-        Sums::Refused(number) => turns::refused(turn, number, 0, page),
+        Ok(None) => turn,
+        Err(refusal) => turns::refused(turn, refusal, page),
     }
 }
 
@@ -72,11 +61,11 @@ pub fn series_bits(turn: Turn, storage: &[u64], page: &mut [u8]) -> Turn {
         &mut batches,
         &mut committed,
     ) {
-        Count::Is(count) => {
+        Ok(count) => {
             let headed = headed(turn, count, page);
             bit_rows(headed, count, &seconds, &drafts, &batches, &committed, page)
         }
-        Count::Refused(number) => turns::refused(turn, number, 0, page),
+        Err(refusal) => turns::refused(turn, refusal, page),
     }
 }
 
@@ -90,21 +79,18 @@ fn bit_rows(
     page: &mut [u8],
 ) -> Turn {
     let mut turn = start;
-    let mut k = 0usize;
-    while k < seconds.len() {
+    for (k, second) in seconds.iter().enumerate() {
         if count <= k as u64 {
             return turn;
         }
-        let next = bit_row(
+        turn = bit_row(
             turn,
-            seconds[k],
+            *second,
             float_at(drafts, k),
             float_at(batches, k),
             float_at(committed, k),
             page,
         );
-        turn = next;
-        k += 1;
     }
     turn
 }
@@ -136,8 +122,8 @@ fn bit_row(
 
 pub fn day(turn: Turn, storage: &[u64], page: &mut [u8]) -> Turn {
     match ledger::day_figure(storage) {
-        Figure::Mean(figure) => figure_told(turn, figure, page),
-        Figure::Refused(number) => turns::refused(turn, number, 0, page),
+        Ok(figure) => figure_told(turn, figure, page),
+        Err(refusal) => turns::refused(turn, refusal, page),
     }
 }
 

@@ -1,6 +1,9 @@
 // Where the program stands behind a line: which line of the day file it is, how far the page is used, and how it went so far. What is told of
 // a line goes to the page by one of these.
 
+use day_shapes::{Expected, WrongField};
+use refusals::{Refusal, RefusedRow};
+
 // The status is 0 where every line was carried out, 1 where one was refused or wrong, 2 where a file could not be read. `rt` is the way to
 // the system: a full page is written out by it.
 #[derive(Clone, Copy)]
@@ -24,37 +27,29 @@ pub fn first(rt: HostRuntime) -> Turn {
 // At the line behind.
 pub fn next(turn: Turn) -> Turn {
     Turn {
-        rt: turn.rt,
         number: std::num::wrapping_add_u64(turn.number, 1),
-        used: turn.used,
-        status: turn.status,
+        ..turn
     }
 }
 
 // Where the page is used up to here.
 pub fn done(turn: Turn, used: usize) -> Turn {
-    Turn {
-        rt: turn.rt,
-        number: turn.number,
-        used,
-        status: turn.status,
-    }
+    Turn { used, ..turn }
 }
 
 // The same where something did not go well.
 fn amiss(turn: Turn, used: usize, status: u64) -> Turn {
     let status = worse(turn.status, status);
     Turn {
-        rt: turn.rt,
-        number: turn.number,
         used,
         status,
+        ..turn
     }
 }
 
 // The worse of two states.
 pub fn worse(a: u64, b: u64) -> u64 {
-    if a < b { b } else { a }
+    a.max(b)
 }
 
 // A line that set something.
@@ -64,18 +59,37 @@ pub fn set(turn: Turn, line: &[u8], page: &mut [u8]) -> Turn {
     done(turn, used)
 }
 
-// A refusal, with its number and row.
-pub fn refused(turn: Turn, number: u64, row: u64, page: &mut [u8]) -> Turn {
+// A refusal of a call, which has no row.
+pub fn refused(turn: Turn, refusal: Refusal, page: &mut [u8]) -> Turn {
+    refused_by(turn, refusal.number(), 0, page)
+}
+
+// A refusal of a text, with its row.
+pub fn refused_at(turn: Turn, refused: RefusedRow, page: &mut [u8]) -> Turn {
+    refused_by(turn, refused.refusal.number(), refused.row, page)
+}
+
+// A refusal by its number, and its row.
+pub fn refused_by(turn: Turn, number: u64, row: u64, page: &mut [u8]) -> Turn {
     let at = page::make_room(turn.rt, page, turn.used);
     let used = shown::refusal(page, at, turn.number, number, row);
     amiss(turn, used, 1)
 }
 
 // A line whose field is not what was expected there.
-pub fn wrong(turn: Turn, field: u64, expected: u64, page: &mut [u8]) -> Turn {
+pub fn wrong(turn: Turn, wrong: WrongField, page: &mut [u8]) -> Turn {
     let at = page::make_room(turn.rt, page, turn.used);
-    let used = shown::wrong(page, at, turn.number, field, expected);
+    let used = shown::wrong(page, at, turn.number, wrong.field, wrong.expected.number());
     amiss(turn, used, 1)
+}
+
+// A line whose second field is none of the names that it may be.
+pub fn unnamed(turn: Turn, page: &mut [u8]) -> Turn {
+    let second = WrongField {
+        field: 1,
+        expected: Expected::OneOfTheNames,
+    };
+    wrong(turn, second, page)
 }
 
 // A file that cannot be read.

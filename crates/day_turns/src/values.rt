@@ -1,21 +1,17 @@
 // The values of a line's fields, once the line is judged: each field is then what it has to be.
-use decimals::Decimal;
-use numeral::answer::Whole;
-
 // The whole number in the field at a place.
 pub fn whole(line: &[u8], place: usize) -> u64 {
     match day_fields::whole_in(line, place) {
-        Whole::Value(value) => value as u64,
-        Whole::Malformed => 0,
+        Ok(value) => value as u64,
+        Err(_) => 0,
     }
 }
 
 // The decimal in the field at a place.
 pub fn decimal(line: &[u8], place: usize) -> f64 {
     match day_fields::decimal_in(line, place) {
-        Decimal::Value(value) => value,
-        Decimal::Malformed => 0.0,
-        Decimal::TooLong => 0.0,
+        Ok(value) => value,
+        Err(_) => 0.0,
     }
 }
 
