@@ -4,7 +4,7 @@
 mod mean;
 mod toward;
 
-ghost use Rattle.std.specs.Prelude.{◌≡◌, false, true, ◌+◌, ◌≤◌, ◌<◌, [], length, replicate};
+ghost use Rattle.std.specs.Prelude.{◌≡◌, false, true, ◌+◌, ◌≤◌, ◌<◌, [], length};
 ghost use Rattle.settings.specs.Settings.{gamma_in, is_trace};
 ghost use Rattle.switch_settings.specs.Switch.{is_unconstrained};
 ghost use Rattle.deciding.specs.Deciding.{Decided, toward, all_put, by_mean, by_gate, by_aggregate, decided_by};
@@ -23,17 +23,6 @@ pub struct Choice {
     pub change: Decision,
 }
 
-// One draft for all.
-fn fill(drafts: &mut [u32], depth: u32)
-    ensures { drafts.new ≡ replicate (length drafts.old) depth }
-{
-    let mut k = 0usize;
-    while k < drafts.len() {
-        drafts[k] = depth;
-        k += 1;
-    }
-}
-
 // All draft to the best depth by the mean acceptance.
 fn by_mean(
     settings: Settings,
@@ -50,7 +39,7 @@ fn by_mean(
 {
     let gamma = settings::gamma_in(settings, ask.depth);
     let depth = mean::mean_depth(settings, ask, gamma, positions, loaded, bank_curve, curve);
-    fill(drafts, depth);
+    drafts.fill(depth);
     Choice {
         weighed: 0,
         change: Decision::Nothing,
@@ -96,7 +85,7 @@ fn put_toward(
 {
     let switch = settings.switch;
     let next = toward::toward(switch, curve, target, past);
-    fill(drafts, next.width);
+    drafts.fill(next.width);
     Choice {
         weighed: 0,
         change: Decision::Put {
@@ -132,7 +121,7 @@ fn by_aggregate(
     let target = gated.depth;
     let switch = settings.switch;
     if switch.is_unconstrained() {
-        fill(drafts, target);
+        drafts.fill(target);
         return Choice {
             weighed: 0,
             change: Decision::Nothing,
@@ -160,7 +149,7 @@ pub fn decide(
     let policy = settings.policy;
     match policy {
         Policy::Fixed => {
-            fill(drafts, settings.gamma);
+            drafts.fill(settings.gamma);
             Choice {
                 weighed: 0,
                 change: Decision::Nothing,

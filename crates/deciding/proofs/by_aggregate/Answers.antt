@@ -10,7 +10,7 @@ use Rattle.deciding.proofs.by_aggregate.Goals as goal
 pub returns-then-is_unconstrained : goal.returns-then-is_unconstrained
 returns-then-is_unconstrained c =
     let a = c.args in
-    plain_decides a.settings a.ask (lent_of a.positions.now a.loaded.now a.signals.now [] a.indices.now) a.curve.now _ _ _ _ a.drafts.now c.gamma_in-gamma.ensures c.gate_batch-gated.ensures _ a.past c.fill.ensures c.requires.batched.room (sym c.is_unconstrained.ensures ∙ c.if-is_unconstrained.true)
+    plain_decides a.settings a.ask (lent_of a.positions.now a.loaded.now a.signals.now [] a.indices.now) a.curve.now _ _ _ _ a.drafts.now c.gamma_in-gamma.ensures c.gate_batch-gated.ensures _ a.past (c.fill.ensures.after (λ y e. e)) c.requires.batched.room (sym c.is_unconstrained.ensures ∙ c.if-is_unconstrained.true)
 
 pub put_toward-requires-clause-drafts_len : goal.put_toward-requires-clause-drafts_len
 put_toward-requires-clause-drafts_len c = let a = c.args in

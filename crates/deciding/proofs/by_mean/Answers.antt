@@ -17,4 +17,4 @@ mean_depth-depth-requires-clause-gamma_in_bounds c = let a = c.args in
 pub returns : goal.returns
 returns c =
     let a = c.args in
-    mean_decides a.settings a.ask (lent_of a.positions.now a.loaded.now [] a.bank_curve.now []) a.curve.now _ _ _ _ c.gamma_in-gamma.ensures c.mean_depth-depth.ensures c.fill.ensures c.requires.gamma_bound.1
+    mean_decides a.settings a.ask (lent_of a.positions.now a.loaded.now [] a.bank_curve.now []) a.curve.now _ _ _ _ c.gamma_in-gamma.ensures c.mean_depth-depth.ensures (c.fill.ensures.after (λ y e. e)) c.requires.gamma_bound.1

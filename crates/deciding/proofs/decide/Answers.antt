@@ -30,7 +30,7 @@ by_aggregate-requires-clause-held c = let a = c.args in
 pub returns-in-Fixed : goal.returns-in-Fixed
 returns-in-Fixed c =
     let a = c.args in
-    fixed_policy a.settings a.ask (lent_of a.positions.now a.loaded.now a.signals.now a.bank_curve.now a.indices.now) a.curve.now (looped a.settings a.ask a.loaded.now) a.past _ _ c.fill.ensures c.requires.room c.in-Fixed.is
+    fixed_policy a.settings a.ask (lent_of a.positions.now a.loaded.now a.signals.now a.bank_curve.now a.indices.now) a.curve.now (looped a.settings a.ask a.loaded.now) a.past _ _ (c.fill.ensures.after (λ y e. e)) c.requires.room c.in-Fixed.is
 
 pub returns-in-GoodputBudget : goal.returns-in-GoodputBudget
 returns-in-GoodputBudget c =

@@ -11,4 +11,4 @@ toward-next-requires-clause-held c = c.requires.held
 pub returns : goal.returns
 returns c =
     let a = c.args in
-    put_decides a.ask.sequences a.ask.a a.ask.b _ _ _ _ _ c.toward-next.ensures c.fill.ensures c.requires.drafts_len.0 c.bits.ensures
+    put_decides a.ask.sequences a.ask.a a.ask.b _ _ _ _ _ c.toward-next.ensures (c.fill.ensures.after (λ y e. e)) c.requires.drafts_len.0 c.bits.ensures
