@@ -21,7 +21,8 @@ use Rattle.ledger_workers.specs.Workers.{past_of}
 use Rattle.ledger_acts.specs.Acts.{plain_done, decided_done}
 use Rattle.ledger.specs.declared.answer.Decision.{Decision}
 use Rattle.ledger.specs.declared.answer.Decision.TheVariants.{Nothing, Put}
-use Rattle.ledger.specs.Calls.{step_judged, worker_judged, recorded}
+use Rattle.ledger.specs.Calls.{step_allowed, worker_allowed, step_judged, worker_judged, recorded}
+use Rattle.refusals.proofs.First.{passed_is_zero}
 use Rattle.settings.specs.declared.Policy.{Policy}
 use Rattle.settings.specs.declared.Policy.TheVariants.{Fixed, GoodputBudget, GatedBudget, GatedAggregate}
 use Rattle.settings.specs.declared.Settings.{Settings}
@@ -36,7 +37,7 @@ use Rattle.planning.specs.Acting.{acted_by, Priced, Judged, decided_priced, chan
 
 -- ---- what the storage keeps
 pub has_room : (ws : List ℕ) (t : ℕ) → step_judged ws t ≡ 0 → room ≤ length ws
-unfolding step_judged
+unfolding step_allowed
 has_room ws t z = by_test (ltb (length ws) room)
     (λ l. let q : ◌≡◌ {A = ℕ} 16 0 = rw l at z in absurd (let w : ⊥ = omega arith in w))
     (λ l. ltb-false (length ws) room l)
@@ -44,14 +45,14 @@ has_room ws t z = by_test (ltb (length ws) room)
 module _ (ws : List ℕ) (step : Step) (change : Decision) (out : List ℕ) (z : step_judged ws step.second ≡ 0) where
   pub kept_plain : change ≡ Nothing → out ≡ plain_done ws step → out ≡ (recorded ws step change).1
   unfolding recorded
-  kept_plain e h = rw (e, z) h
+  kept_plain e h = rw (e, passed_is_zero (step_allowed ws step.second) z) h
 
   pub kept_put : (a b width rounds stall : ℕ) → change ≡ Put a b width rounds stall → change_judged ws change ≡ 0
       → out ≡ decided_done ws step a b width rounds stall (past_of ws a b) → out ≡ (recorded ws step change).1
   unfolding recorded
   kept_put a b width rounds stall e j h =
       let w : worker_judged ws a b ≡ 0 = sym (ap (change_judged ws) e) ∙ j in
-      rw (e, w, z) h
+      rw (e, passed_is_zero (worker_allowed ws a b) w, passed_is_zero (step_allowed ws step.second) z) h
 
 -- ---- the worker's record is read and put only where it is used
 module _ (best : List Float → List Float → ℕ) (s : Settings) (a : Ask) (l : Lent) (curve : List Float) where
