@@ -10,9 +10,10 @@ use lib.Seq.{length-take-le}
 use borrow.Author.Tests.{leb-true}
 use Rattle.laws.proofs.Both.{both}
 use Rattle.float.proofs.Classes.{clash}
-use Rattle.refusals.specs.Refusals.{first_of}
+use Rattle.refusals.specs.Refusals.{first_of, number_in}
+use Rattle.refusals.proofs.First.{both_pass, passed_is_zero}
 use Rattle.numeral.specs.Moment.{second_of}
-use Rattle.acceptance.specs.Acceptance.{model_refusal}
+use Rattle.acceptance.specs.Acceptance.{model_judged, model_refusal}
 use Rattle.acceptance.specs.declared.AcceptanceModel.{AcceptanceModel}
 use Rattle.acceptance.specs.declared.AcceptanceModel.TheVariants.{Constant, PerPosition, Trace}
 use Rattle.cost_rows.specs.Lawful.{all_in_range, lawful}
@@ -22,7 +23,7 @@ use Rattle.ledger_rows.specs.declared.layout.Past.{Past}
 use Rattle.ledger_workers.specs.Workers.{past_of}
 use Rattle.ledger.specs.Calls.{step_judged, worker_judged}
 use Rattle.settings.specs.declared.Settings.{Settings}
-use Rattle.settings.specs.Settings.{settings_refusal, gamma_in, uses_signals, is_trace}
+use Rattle.settings.specs.Settings.{settings_judged, settings_refusal, gamma_in, uses_signals, is_trace}
 use Rattle.rounds.specs.Signals.{are_finite}
 use Rattle.rounds.specs.declared.drawing.Drawn.TheVariants.{Used}
 use Rattle.asked_rooms.specs.declared.Ask.{Ask}
@@ -101,8 +102,8 @@ module _ (s : Settings) (a : Ask) (l : Lent) (ws ds cs : List ℕ) (e : asked_re
 
       module _ (settled : settings_refusal s l.positions ≡ 0) where
         model_passed : model_refusal s.model l.positions ≡ 0
-        unfolding settings_refusal
-        model_passed = (neither _ _ settled).0
+        unfolding settings_judged
+        model_passed = ap number_in (both_pass (model_judged s.model l.positions) _ (passed_is_zero (settings_judged s l.positions) settled)).0
 
         is_ruled : Ruled s a l (curve_of s a l)
         unfolding curve_of
