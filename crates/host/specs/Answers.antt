@@ -1,25 +1,14 @@
 -- Answers as the numbers that a host is handed: the refusal, 0 for none, and the figures, 0 where there are none. Assumes nothing.
-use Rattle.std.specs.Prelude.{ℕ}
+use Rattle.std.specs.Prelude.{ℕ, Float, Option, Some, None, Result, Ok, Err}
 use Rattle.std.specs.Float.{binary64}
 use Rattle.std.specs.Float.Ieee.{of_bits}
-use Rattle.ledger.specs.declared.answer.Answer.{Answer}
-use Rattle.ledger.specs.declared.answer.Answer.TheVariants.{Done, Refused}
-use Rattle.ledger.specs.declared.answer.Count.{Count}
-use Rattle.ledger.specs.declared.answer.Count.TheVariants.{Is, Refused as Uncounted}
-use Rattle.ledger.specs.declared.answer.Stall.{Stall}
-use Rattle.ledger.specs.declared.answer.Stall.TheVariants.{Seconds, Refused as Uncollected}
-use Rattle.ledger.specs.declared.answer.Figure.{Figure}
-use Rattle.ledger.specs.declared.answer.Figure.TheVariants.{Mean, Refused as Unfigured}
-use Rattle.ledger.specs.declared.answer.Found.{Found}
-use Rattle.ledger.specs.declared.answer.Found.TheVariants.{Held, Unknown, Refused as Unsought}
-use Rattle.speculative.specs.declared.drafter.DraftTime.{DraftTime}
-use Rattle.speculative.specs.declared.drafter.DraftTime.TheVariants.{Seconds as Taken, Refused as Untimed}
+use Rattle.refusals.specs.declared.Refusal.{Refusal}
+use Rattle.refusals.specs.declared.RefusedRow.{RefusedRow}
+use Rattle.refusals.specs.Refusals.{Judgement, number_of, number_in}
+use Rattle.ledger.specs.declared.answer.Held.{Held}
 use Rattle.judged_plans.specs.declared.Planned.{Planned}
 use Rattle.judged_plans.specs.declared.Planned.TheVariants.{Plan, Empty, Refused as Unplanned}
-use Rattle.bank_judge.specs.declared.Answer.{Answer as Bank}
-use Rattle.bank_judge.specs.declared.Answer.TheVariants.{Bank as Rounds, Refused as NoBank}
-use Rattle.measured.specs.declared.Answer.{Answer as Table}
-use Rattle.measured.specs.declared.Answer.TheVariants.{Table as Rows, Refused as NoTable}
+use Rattle.bank_judge.specs.declared.BankSize.{BankSize}
 use Rattle.width_way.specs.declared.Settling.{Settling}
 use Rattle.width_way.specs.declared.Settling.TheVariants.{Within, NoStep, NoCandidate, AtOnce, Refused as Unsettled}
 use Rattle.host.specs.declared.answers.HostPlan.{HostPlan}
@@ -29,31 +18,26 @@ use Rattle.host.specs.declared.answers.HostWorker.{HostWorker}
 use Rattle.host.specs.declared.answers.HostRead.{HostRead}
 use Rattle.host.specs.declared.answers.HostSettling.{HostSettling}
 
-unfoldable pub answer_of : Answer → ℕ
-answer_of Done = 0
-answer_of (Refused number) = number
+unfoldable pub answer_of : Judgement → ℕ
+answer_of answer = number_in answer
 
-unfoldable pub count_of : Count → HostCount
-count_of (Is count) = record { refusal = 0; count = count }
-count_of (Uncounted number) = record { refusal = number; count = 0 }
+unfoldable pub count_of : Result ℕ Refusal → HostCount
+count_of (Ok count) = record { refusal = 0; count = count }
+count_of (Err refusal) = record { refusal = number_of refusal; count = 0 }
 
-unfoldable pub stall_of : Stall → HostFigure
-stall_of (Seconds value) = record { refusal = 0; value = value }
-stall_of (Uncollected number) = record { refusal = number; value = of_bits binary64 0 }
-
-unfoldable pub mean_of : Figure → HostFigure
-mean_of (Mean value) = record { refusal = 0; value = value }
-mean_of (Unfigured number) = record { refusal = number; value = of_bits binary64 0 }
-
-unfoldable pub time_of : DraftTime → HostFigure
-time_of (Taken value) = record { refusal = 0; value = value }
-time_of (Untimed number) = record { refusal = number; value = of_bits binary64 0 }
+-- a stall, a mean or the seconds of a draft
+unfoldable pub figure_of : Result Float Refusal → HostFigure
+figure_of (Ok value) = record { refusal = 0; value = value }
+figure_of (Err refusal) = record { refusal = number_of refusal; value = of_bits binary64 0 }
 
 -- a worker that is not held has a record of zeros
-unfoldable pub found_of : Found → HostWorker
-found_of (Held width rounds stall) = record { refusal = 0; held = 1; width = width; rounds = rounds; stall = of_bits binary64 stall }
-found_of Unknown = record { refusal = 0; held = 0; width = 0; rounds = 0; stall = of_bits binary64 0 }
-found_of (Unsought number) = record { refusal = number; held = 0; width = 0; rounds = 0; stall = of_bits binary64 0 }
+abbrev pub no_worker : ℕ → HostWorker
+no_worker number = record { refusal = number; held = 0; width = 0; rounds = 0; stall = of_bits binary64 0 }
+
+unfoldable pub found_of : Result (Option Held) Refusal → HostWorker
+found_of (Ok (Some held)) = record { refusal = 0; held = 1; width = held.width; rounds = held.rounds; stall = of_bits binary64 held.stall }
+found_of (Ok None) = no_worker 0
+found_of (Err refusal) = no_worker (number_of refusal)
 
 -- a plan of no sequences uses and weighs nothing
 unfoldable pub planned_of : Planned → HostPlan
@@ -61,19 +45,27 @@ planned_of (Plan used weighed) = record { refusal = 0; used = used; weighed = we
 planned_of Empty = record { refusal = 0; used = 0; weighed = 0 }
 planned_of (Unplanned number) = record { refusal = number; used = 0; weighed = 0 }
 
--- a bank's rows are its rounds; row 0 where the refusal is of no row
-unfoldable pub bank_of : Bank → HostRead
-bank_of (Rounds depth rounds) = record { refusal = 0; row = 0; rows = rounds; depth = depth }
-bank_of (NoBank number row) = record { refusal = number; row = row; rows = 0; depth = 0 }
+-- row 0 where the refusal is of no row
+abbrev pub not_read : RefusedRow → HostRead
+not_read refused = record { refusal = number_of refused.refusal; row = refused.row; rows = 0; depth = 0 }
 
-unfoldable pub table_of : Table → HostRead
-table_of (Rows rows) = record { refusal = 0; row = 0; rows = rows; depth = 0 }
-table_of (NoTable number row) = record { refusal = number; row = row; rows = 0; depth = 0 }
+-- a bank's rows are its rounds
+unfoldable pub bank_of : Result BankSize RefusedRow → HostRead
+bank_of (Ok size) = record { refusal = 0; row = 0; rows = size.rounds; depth = size.depth }
+bank_of (Err refused) = not_read refused
+
+unfoldable pub table_of : Result ℕ RefusedRow → HostRead
+table_of (Ok rows) = record { refusal = 0; row = 0; rows = rows; depth = 0 }
+table_of (Err refused) = not_read refused
+
+-- neither rounds nor walks
+abbrev pub without_rounds : ℕ → ℕ → ℕ → HostSettling
+without_rounds refusal settles width = record { refusal = refusal; settles = settles; rounds = 0; walks = 0; width = width }
 
 -- how a width settles, by a number, and the figures of that case
 unfoldable pub settling_of : Settling → HostSettling
 settling_of (Within rounds walks) = record { refusal = 0; settles = 1; rounds = rounds; walks = walks; width = 0 }
-settling_of AtOnce = record { refusal = 0; settles = 2; rounds = 0; walks = 0; width = 0 }
-settling_of (NoStep width) = record { refusal = 0; settles = 3; rounds = 0; walks = 0; width = width }
-settling_of (NoCandidate width) = record { refusal = 0; settles = 4; rounds = 0; walks = 0; width = width }
-settling_of (Unsettled number) = record { refusal = number; settles = 0; rounds = 0; walks = 0; width = 0 }
+settling_of AtOnce = without_rounds 0 2 0
+settling_of (NoStep width) = without_rounds 0 3 width
+settling_of (NoCandidate width) = without_rounds 0 4 width
+settling_of (Unsettled number) = without_rounds number 0 0

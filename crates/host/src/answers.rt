@@ -1,14 +1,13 @@
 // What a host is answered: the number of the refusal, 0 for none, and the figures, each 0 where there are none.
 ghost use Rattle.std.specs.Prelude.{◌≡◌};
-ghost use Rattle.std.specs.Float.{binary64};
-ghost use Rattle.std.specs.Float.Ieee.{of_bits};
 ghost use Rattle.ledger_rows.specs.Layout.{room};
-ghost use Rattle.host.specs.Answers.{answer_of, count_of, stall_of, mean_of, time_of, found_of, planned_of, bank_of, table_of, settling_of};
+ghost use Rattle.host.specs.Answers.{answer_of, count_of, figure_of, no_worker, found_of, planned_of, not_read, bank_of, table_of, without_rounds, settling_of};
 
+use bank_judge::BankSize;
 use judged_plans::Planned;
-use ledger::answer::{Answer, Count, Figure, Found, Stall};
+use ledger::answer::Held;
 use ledger_rows::layout::ROOM;
-use speculative::drafter::DraftTime;
+use refusals::{Refusal, RefusedRow};
 use width_way::Settling;
 
 // The draws that a plan used and the slots that it weighed.
@@ -74,65 +73,42 @@ pub fn room() -> usize
     ROOM
 }
 
-pub fn of_answer(answer: Answer) -> u64
+#[tactic(auto, unfolding(crate::specs::Answers::answer_of))]
+pub fn of_answer(answer: Result<(), Refusal>) -> u64
     ensures { result ≡ answer_of answer }
 {
-    match answer {
-        Answer::Done => 0,
-        Answer::Refused(number) => number,
-    }
+    refusals::number_in(answer)
 }
 
-pub fn of_count(answer: Count) -> HostCount
+#[tactic(auto, unfolding(crate::specs::Answers::count_of))]
+pub fn of_count(answer: Result<u64, Refusal>) -> HostCount
     ensures { result ≡ count_of answer }
 {
     match answer {
-        Count::Is(count) => HostCount { refusal: 0, count },
-        Count::Refused(number) => HostCount {
-            refusal: number,
+        Ok(count) => HostCount { refusal: 0, count },
+        Err(refusal) => HostCount {
+            refusal: refusal.number(),
             count: 0,
         },
     }
 }
 
-pub fn of_stall(answer: Stall) -> HostFigure
-    ensures { result ≡ stall_of answer }
+// A stall, a mean or the seconds of a draft.
+#[tactic(auto, unfolding(crate::specs::Answers::figure_of))]
+pub fn of_figure(answer: Result<f64, Refusal>) -> HostFigure
+    ensures { result ≡ figure_of answer }
 {
     match answer {
-        Stall::Seconds(value) => HostFigure { refusal: 0, value },
-        Stall::Refused(number) => HostFigure {
-            refusal: number,
-            value: 0.0,
-        },
-    }
-}
-
-pub fn of_mean(answer: Figure) -> HostFigure
-    ensures { result ≡ mean_of answer }
-{
-    match answer {
-        Figure::Mean(value) => HostFigure { refusal: 0, value },
-        Figure::Refused(number) => HostFigure {
-            refusal: number,
-            value: 0.0,
-        },
-    }
-}
-
-pub fn of_time(answer: DraftTime) -> HostFigure
-    ensures { result ≡ time_of answer }
-{
-    match answer {
-        DraftTime::Seconds(value) => HostFigure { refusal: 0, value },
-        DraftTime::Refused(number) => HostFigure {
-            refusal: number,
+        Ok(value) => HostFigure { refusal: 0, value },
+        Err(refusal) => HostFigure {
+            refusal: refusal.number(),
             value: 0.0,
         },
     }
 }
 
 fn no_worker(number: u64) -> HostWorker
-    ensures { result ≡ record { refusal = number; held = 0; width = 0; rounds = 0; stall = of_bits binary64 0 } }
+    ensures { result ≡ no_worker number }
 {
     HostWorker {
         refusal: number,
@@ -143,29 +119,24 @@ fn no_worker(number: u64) -> HostWorker
     }
 }
 
-pub fn of_found(answer: Found) -> HostWorker
+#[tactic(auto, unfolding(crate::specs::Answers::found_of))]
+pub fn of_found(answer: Result<Option<Held>, Refusal>) -> HostWorker
     ensures { result ≡ found_of answer }
 {
     match answer {
-        Found::Held {
-            width,
-            rounds,
-            stall,
-        } => {
-            let seconds = float::of_bits(stall);
-            HostWorker {
-                refusal: 0,
-                held: 1,
-                width,
-                rounds,
-                stall: seconds,
-            }
-        }
-        Found::Unknown => no_worker(0),
-        Found::Refused(number) => no_worker(number),
+        Ok(Some(held)) => HostWorker {
+            refusal: 0,
+            held: 1,
+            width: held.width,
+            rounds: held.rounds,
+            stall: float::of_bits(held.stall),
+        },
+        Ok(None) => no_worker(0),
+        Err(refusal) => no_worker(refusal.number()),
     }
 }
 
+#[tactic(auto, unfolding(crate::specs::Answers::planned_of))]
 pub fn of_planned(answer: Planned) -> HostPlan
     ensures { result ≡ planned_of answer }
 {
@@ -188,47 +159,50 @@ pub fn of_planned(answer: Planned) -> HostPlan
     }
 }
 
-pub fn of_bank(answer: bank_judge::Answer) -> HostRead
-    ensures { result ≡ bank_of answer }
+fn not_read(refused: RefusedRow) -> HostRead
+    ensures { result ≡ not_read refused }
 {
-    match answer {
-        bank_judge::Answer::Bank { depth, rounds } => HostRead {
-            refusal: 0,
-            row: 0,
-            rows: rounds,
-            depth,
-        },
-        bank_judge::Answer::Refused { number, row } => HostRead {
-            refusal: number,
-            row,
-            rows: 0,
-            depth: 0,
-        },
+    HostRead {
+        refusal: refused.refusal.number(),
+        row: refused.row,
+        rows: 0,
+        depth: 0,
     }
 }
 
-pub fn of_table(answer: measured::Answer) -> HostRead
+#[tactic(auto, unfolding(crate::specs::Answers::bank_of))]
+pub fn of_bank(answer: Result<BankSize, RefusedRow>) -> HostRead
+    ensures { result ≡ bank_of answer }
+{
+    match answer {
+        Ok(size) => HostRead {
+            refusal: 0,
+            row: 0,
+            rows: size.rounds,
+            depth: size.depth,
+        },
+        Err(refused) => not_read(refused),
+    }
+}
+
+#[tactic(auto, unfolding(crate::specs::Answers::table_of))]
+pub fn of_table(answer: Result<u32, RefusedRow>) -> HostRead
     ensures { result ≡ table_of answer }
 {
     match answer {
-        measured::Answer::Table { rows } => HostRead {
+        Ok(rows) => HostRead {
             refusal: 0,
             row: 0,
             rows,
             depth: 0,
         },
-        measured::Answer::Refused { number, row } => HostRead {
-            refusal: number,
-            row,
-            rows: 0,
-            depth: 0,
-        },
+        Err(refused) => not_read(refused),
     }
 }
 
 // An answer that has neither rounds nor walks.
 fn without_rounds(refusal: u64, settles: u64, width: u32) -> HostSettling
-    ensures { result ≡ record { refusal = refusal; settles = settles; rounds = 0; walks = 0; width = width } }
+    ensures { result ≡ without_rounds refusal settles width }
 {
     HostSettling {
         refusal,
@@ -239,6 +213,7 @@ fn without_rounds(refusal: u64, settles: u64, width: u32) -> HostSettling
     }
 }
 
+#[tactic(auto, unfolding(crate::specs::Answers::settling_of))]
 pub fn of_settling(answer: Settling) -> HostSettling
     ensures { result ≡ settling_of answer }
 {

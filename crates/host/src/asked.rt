@@ -62,35 +62,18 @@ pub struct HostAsk {
 pub fn settings_fit(s: HostSettings) -> bool
     ensures { result ≡ settings_fit s }
 {
-    if 3 < s.policy {
-        return false;
-    }
-    if 2 < s.model {
-        return false;
-    }
-    if 2 < s.drafter {
-        return false;
-    }
-    if 1 < s.steps {
-        return false;
-    }
-    if 1 < s.prices {
-        return false;
-    }
-    true
+    s.policy <= 3 && s.model <= 2 && s.drafter <= 2 && s.steps <= 1 && s.prices <= 1
 }
 
 #[tactic(auto, unfolding(crate::specs::Asked::ask_fits))]
 pub fn ask_fits(ask: HostAsk) -> bool
     ensures { result ≡ ask_fits ask }
 {
-    if 1 < ask.source {
-        return false;
-    }
-    true
+    ask.source <= 1
 }
 
 // 0 a constant, 1 a list of positions, 2 a trace.
+#[tactic(auto, unfolding(crate::specs::Asked::model_of))]
 fn model_of(model: u32, alpha: f64) -> AcceptanceModel
     ensures { result ≡ model_of model alpha }
 {
@@ -104,6 +87,7 @@ fn model_of(model: u32, alpha: f64) -> AcceptanceModel
 }
 
 // 0 Fixed, 1 GoodputBudget, 2 GatedBudget, 3 GatedAggregate.
+#[tactic(auto, unfolding(crate::specs::Asked::policy_of))]
 fn policy_of(policy: u32) -> Policy
     ensures { result ≡ policy_of policy }
 {
@@ -120,6 +104,7 @@ fn policy_of(policy: u32) -> Policy
 }
 
 // 0 any number of candidates a walk, 1 at most `max_step`.
+#[tactic(auto, unfolding(crate::specs::Asked::step_of))]
 fn step_of(steps: u32, max_step: u32) -> MaxStep
     ensures { result ≡ step_of steps max_step }
 {
@@ -153,6 +138,7 @@ pub fn drafter_of(s: HostSettings) -> DrafterCost
 }
 
 // 0 the roofline, 1 the table.
+#[tactic(auto, unfolding(crate::specs::Asked::source_of))]
 fn source_of(source: u32) -> Source
     ensures { result ≡ source_of source }
 {
