@@ -4,6 +4,7 @@ ghost use Rattle.settings.specs.Settings.{settings_refusal, gamma_in};
 ghost use Rattle.asking.specs.Asked.{asked_refusal};
 ghost use Rattle.host.specs.Asked.{settings_of, ask_of};
 
+use asking::Inputs;
 use host::asked;
 use host::asked::{HostAsk, HostSettings};
 
@@ -13,7 +14,7 @@ pub extern "C" fn settings_settings_refusal(settings: HostSettings, positions: &
     ensures { result ≡ settings_refusal (settings_of settings) positions.now }
 {
     let set = asked::settings_of(settings);
-    settings::settings_refusal(set, positions)
+    refusals::number_in(settings::judge_settings(set, positions))
 }
 
 // The depth that a plan may draft to.
@@ -49,9 +50,7 @@ pub extern "C" fn asking_asked_refusal(
 {
     let set = asked::settings_of(settings);
     let asks = asked::ask_of(ask);
-    asking::asked_refusal(
-        set,
-        asks,
+    let inputs = Inputs {
         positions,
         roofline,
         depths,
@@ -63,8 +62,6 @@ pub extern "C" fn asking_asked_refusal(
         bank_curve,
         draws,
         indices,
-        storage,
-        drafts,
-        commits,
-    )
+    };
+    refusals::number_in(asking::judge_ask(set, asks, inputs, storage, drafts, commits))
 }

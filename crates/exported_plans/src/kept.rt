@@ -14,7 +14,7 @@ use ledger_rows::layout::Step;
 pub extern "C" fn ledger_judge_step(storage: &[u64], second: u64) -> u64
     ensures { result ≡ step_judged storage.now second }
 {
-    ledger::judge_step(storage, second)
+    refusals::number_in(ledger::judge_step(storage, second))
 }
 
 // The number of the refusal, 0 for none.
@@ -22,10 +22,11 @@ pub extern "C" fn ledger_judge_step(storage: &[u64], second: u64) -> u64
 pub extern "C" fn ledger_judge_worker(storage: &[u64], a: u64, b: u64) -> u64
     ensures { result ≡ worker_judged storage.now a b }
 {
-    ledger::judge_worker(storage, a, b)
+    refusals::number_in(ledger::judge_worker(storage, a, b))
 }
 
 // 0 nothing, any other number the record that is put, its stall by its bits.
+#[tactic(auto, unfolding(crate::specs::Changes::change_of))]
 fn change_of(puts: u64, a: u64, b: u64, width: u64, rounds: u64, stall: u64) -> Decision
     ensures { result ≡ change_of puts a b width rounds stall }
 {
