@@ -1,6 +1,7 @@
 -- What a host's calls answer and leave: the planner's own outcomes, each answer as the numbers that cross. Assumes nothing.
-use Rattle.std.specs.Prelude.{ℕ, Bool, cond, ◌&&◌, List, Float}
-use Rattle.speculative.specs.declared.drafter.DraftTime.TheVariants.{Refused as Untimed}
+use Rattle.std.specs.Prelude.{ℕ, Bool, cond, ◌&&◌, List, Float, Result, Err}
+use Rattle.refusals.specs.declared.Refusal.{Refusal}
+use Rattle.refusals.specs.declared.Refusal.TheVariants.{Setting}
 use Rattle.speculative.specs.Drafter.{draft_ragged}
 use Rattle.asking.specs.Asked.{Lent}
 use Rattle.judged_plans.specs.declared.Planned.TheVariants.{Refused}
@@ -9,7 +10,6 @@ use Rattle.std.specs.Prelude.{Some, None}
 use Rattle.verifies.specs.Accepted.{accepted_of}
 use Rattle.width_way.specs.declared.Settling.TheVariants.{Refused as Unsettled}
 use Rattle.settling.specs.Settling.{PricesLent, settles}
-use Rattle.ledger.specs.declared.answer.Count.{Count}
 use Rattle.bank.specs.Read.{Outcome as Bank}
 use Rattle.measured.specs.Fill.{Outcome as Table}
 use Rattle.host.specs.declared.answers.HostPlan.{HostPlan}
@@ -21,14 +21,14 @@ use Rattle.host.specs.declared.asked.HostSettings.{HostSettings}
 use Rattle.host.specs.declared.asked.HostRates.{HostRates}
 use Rattle.host.specs.declared.asked.HostAsk.{HostAsk}
 use Rattle.host.specs.Asked.{settings_fit, ask_fits, settings_of, ask_of, rates_of, drafter_of}
-use Rattle.host.specs.Answers.{count_of, planned_of, time_of, bank_of, table_of, settling_of}
+use Rattle.host.specs.Answers.{count_of, planned_of, figure_of, bank_of, table_of, settling_of}
 
 -- the answer as it crosses, and the rest as it is
 abbrev pub on_first : {A B C : Type 0} → (A → B) → A × C → B × C
 on_first f p = (f p.0, p.1)
 
 -- the count of a series, and its four buffers
-abbrev pub series_handed : Count × List ℕ × List Float × List Float × List Float → HostCount × List ℕ × List Float × List Float × List Float
+abbrev pub series_handed : Result ℕ Refusal × List ℕ × List Float × List Float × List Float → HostCount × List ℕ × List Float × List Float × List Float
 series_handed p = (count_of p.0, p.1, p.2, p.3, p.4)
 
 -- a plan's answer, and the storage, the drafts and the commits
@@ -44,7 +44,7 @@ plan_called s a l storage drafts commits =
 
 unfoldable pub seconds_called : HostSettings → HostRates → Float → List ℕ → List Float → HostFigure
 seconds_called s r verify widths loaded =
-    time_of (cond (settings_fit s) (draft_ragged (drafter_of s) widths (rates_of r) verify loaded) (Untimed 12))
+    figure_of (cond (settings_fit s) (draft_ragged (drafter_of s) widths (rates_of r) verify loaded) (Err Setting))
 
 unfoldable pub accepted_called : ℕ → Bool → ℕ → ℕ
 accepted_called draft is_planned commits = accepted_of draft (cond is_planned (Some commits) None)

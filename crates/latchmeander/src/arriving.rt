@@ -8,6 +8,7 @@ use host::{answers, asked};
 use width_way::Settling;
 
 // How long until the width is the target; the widths after each walk stand at the front of `widths`.
+#[tactic(auto, unfolding(crate::specs::Calls::settles_called))]
 pub fn latchmeander_settles(
     settings: HostSettings,
     ask: HostAsk,
@@ -21,12 +22,7 @@ pub fn latchmeander_settles(
 ) -> HostSettling
     ensures { (result, widths.new) ≡ settles_called settings ask (record { roofline = roofline.now; depths = depths.now; batches = batches.now; seconds = seconds.now }) width target widths.old }
 {
-    let known = asked::settings_fit(settings);
-    if !known {
-        return answers::of_settling(Settling::Refused(12));
-    }
-    let priced = asked::ask_fits(ask);
-    if !priced {
+    if !asked::settings_fit(settings) || !asked::ask_fits(ask) {
         return answers::of_settling(Settling::Refused(12));
     }
     let set = asked::settings_of(settings);

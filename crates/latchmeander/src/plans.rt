@@ -6,9 +6,10 @@ use host::answers::{HostFigure, HostPlan};
 use host::asked::{HostAsk, HostRates, HostSettings};
 use host::{answers, asked};
 use planner::Planned;
-use speculative::drafter::DraftTime;
+use refusals::Refusal;
 
 // A plan; the drafts and the commits of the sequences stand at the fronts of `drafts` and `commits`.
+#[tactic(auto, unfolding(crate::specs::Calls::plan_called))]
 pub fn latchmeander_plan(
     settings: HostSettings,
     ask: HostAsk,
@@ -29,12 +30,7 @@ pub fn latchmeander_plan(
 ) -> HostPlan
     ensures { (result, storage.new, drafts.new, commits.new) ≡ plan_called settings ask (record { positions = positions.now; roofline = roofline.now; depths = depths.now; batches = batches.now; seconds = seconds.now; loaded = loaded.now; bank_commits_of = bank_commits.now; signals = signals.now; bank_curve_of = bank_curve.now; draws = draws.now; indices = indices.now }) storage.old drafts.old commits.old }
 {
-    let known = asked::settings_fit(settings);
-    if !known {
-        return answers::of_planned(Planned::Refused(12));
-    }
-    let priced = asked::ask_fits(ask);
-    if !priced {
+    if !asked::settings_fit(settings) || !asked::ask_fits(ask) {
         return answers::of_planned(Planned::Refused(12));
     }
     let set = asked::settings_of(settings);
@@ -61,6 +57,7 @@ pub fn latchmeander_plan(
 }
 
 // The seconds that the drafter of the settings takes, where each sequence has its own width.
+#[tactic(auto, unfolding(crate::specs::Calls::seconds_called))]
 pub fn latchmeander_drafter_seconds(
     settings: HostSettings,
     rates: HostRates,
@@ -70,17 +67,17 @@ pub fn latchmeander_drafter_seconds(
 ) -> HostFigure
     ensures { result ≡ seconds_called settings rates verify_c widths.now loaded.now }
 {
-    let known = asked::settings_fit(settings);
-    if !known {
-        return answers::of_time(DraftTime::Refused(12));
+    if !asked::settings_fit(settings) {
+        return answers::of_figure(Err(Refusal::Setting));
     }
     let set = asked::settings_of(settings);
     let speeds = asked::rates_of(rates);
     let answer = planner::drafter_seconds(set, widths, speeds, verify_c, loaded);
-    answers::of_time(answer)
+    answers::of_figure(answer)
 }
 
 // How many of a sequence's drafts a verify accepts, where a round was planned that commits so many.
+#[tactic(auto, unfolding(crate::specs::Calls::accepted_called))]
 pub fn latchmeander_accepted(draft: u32, planned: bool, commits: u32) -> u32
     ensures { result ≡ accepted_called draft planned commits }
 {

@@ -2,7 +2,7 @@
 ghost use Rattle.std.specs.Prelude.{◌≡◌};
 ghost use Rattle.ledger_rows.specs.Layout.{room, seconds_held, workers_held, available};
 ghost use Rattle.ledger.specs.Calls.{emptied, collected, withdrawn, count_of as counted, series_read, day_figure, worker_of};
-ghost use Rattle.host.specs.Answers.{answer_of, count_of, stall_of, mean_of, found_of};
+ghost use Rattle.host.specs.Answers.{answer_of, count_of, figure_of, found_of};
 ghost use Rattle.latchmeander.specs.Calls.{on_first, series_handed};
 
 use host::answers;
@@ -25,10 +25,10 @@ pub fn latchmeander_fresh(storage: &mut [u64]) -> u64
 
 // A worker's stall, cleared.
 pub fn latchmeander_collect(storage: &mut [u64], a: u64, b: u64) -> HostFigure
-    ensures { (result, storage.new) ≡ on_first stall_of (collected storage.old a b) }
+    ensures { (result, storage.new) ≡ on_first figure_of (collected storage.old a b) }
 {
     let answer = planner::collect(storage, a, b);
-    answers::of_stall(answer)
+    answers::of_figure(answer)
 }
 
 // The newest change that stands is taken back.
@@ -79,10 +79,10 @@ pub fn latchmeander_series(
 
 // The mean of the seconds' mean drafts.
 pub fn latchmeander_day_figure(storage: &[u64]) -> HostFigure
-    ensures { result ≡ mean_of (day_figure storage.now) }
+    ensures { result ≡ figure_of (day_figure storage.now) }
 {
     let answer = ledger::day_figure(storage);
-    answers::of_mean(answer)
+    answers::of_figure(answer)
 }
 
 // A worker's record.

@@ -5,7 +5,7 @@ use mathlib.Core.Path.{◌≡◌}
 use Prim.Native.Nat.{ℕ}
 use lib.Ieee.{Float}
 use Rattle.bank.specs.Read.{bank_read}
-use Rattle.host.specs.Answers.{answer_of, count_of, found_of, mean_of, stall_of}
+use Rattle.host.specs.Answers.{answer_of, count_of, figure_of, found_of}
 use Rattle.host.specs.Library.{version}
 use Rattle.host.specs.declared.answers.HostCount.{HostCount}
 use Rattle.host.specs.declared.answers.HostFigure.{HostFigure}
@@ -32,7 +32,7 @@ latchmeander_room_once x y p q = once p q
 pub latchmeander_fresh_once : (storage : List ℕ) → OnlyTwo (λ (r : ℕ) (storage' : List ℕ). (r, storage') ≡ on_first answer_of (emptied storage))
 latchmeander_fresh_once storage x b y c p q = pair_once p q
 
-pub latchmeander_collect_once : (storage : List ℕ) (a b : ℕ) → OnlyTwo (λ (r : HostFigure) (storage' : List ℕ). (r, storage') ≡ on_first stall_of (collected storage a b))
+pub latchmeander_collect_once : (storage : List ℕ) (a b : ℕ) → OnlyTwo (λ (r : HostFigure) (storage' : List ℕ). (r, storage') ≡ on_first figure_of (collected storage a b))
 latchmeander_collect_once storage a b x left y c p q = pair_once p q
 
 pub latchmeander_withdraw_once : (storage : List ℕ) → OnlyTwo (λ (r : ℕ) (storage' : List ℕ). (r, storage') ≡ on_first answer_of (withdrawn storage))
@@ -50,7 +50,7 @@ latchmeander_workers_held_once storage x y p q = once p q
 pub latchmeander_series_once : (storage seconds : List ℕ) (mean_drafts mean_batches mean_committed : List Float) → OnlyFive (λ (r : HostCount) (seconds' : List ℕ) (mean_drafts' : List Float) (mean_batches' : List Float) (mean_committed' : List Float). (r, seconds', mean_drafts', mean_batches', mean_committed') ≡ series_handed (series_read storage seconds mean_drafts mean_batches mean_committed))
 latchmeander_series_once storage seconds mean_drafts mean_batches mean_committed x b c d e y b' c' d' e' p q = five_once p q
 
-pub latchmeander_day_figure_once : (storage : List ℕ) → OnlyOne (λ (r : HostFigure). r ≡ mean_of (day_figure storage))
+pub latchmeander_day_figure_once : (storage : List ℕ) → OnlyOne (λ (r : HostFigure). r ≡ figure_of (day_figure storage))
 latchmeander_day_figure_once storage x y p q = once p q
 
 pub latchmeander_worker_once : (storage : List ℕ) (a b : ℕ) → OnlyOne (λ (r : HostWorker). r ≡ found_of (worker_of storage a b))

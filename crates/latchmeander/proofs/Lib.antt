@@ -1,2 +1,0 @@
-mod Handed
-mod Settled

@@ -1,7 +1,0 @@
--- `latchmeander_available` meets its contract: the answer as it crosses. Assumes nothing.
-use mathlib.Core.Path.{ap, ◌∙◌}
-use Rattle.host.specs.Answers.{count_of}
-use Rattle.latchmeander.proofs.storage.latchmeander_available.Goals as goal
-
-pub returns : goal.returns
-returns c = c.of_count.ensures ∙ ap count_of c.available-answer.ensures
