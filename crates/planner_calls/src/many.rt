@@ -56,15 +56,11 @@ fn each(
     };
     let mut asker = plans::asker_of(call, second(words::at(call, 4)));
     let mut at = words::at(call, 4);
-    let mut k = 0u64;
-    while k < count {
-        k += 1;
+    for _ in 0..count {
         let planned = plans::plan(asker, set, floats, wholes, storage, drafts, commits);
-        let next = and(all, planned);
-        all = next;
+        all = and(all, planned);
         at = wrapping_add_u64(at, words::at(call, 10));
-        let further = further(asker, words::at(call, 9), second(at));
-        asker = further;
+        asker = further(asker, words::at(call, 9), second(at));
     }
     all
 }

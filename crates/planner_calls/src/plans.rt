@@ -84,14 +84,8 @@ pub fn one(
 }
 
 fn copy(from: &[u64], to: &mut [u64]) {
-    let mut k = 0usize;
-    while k < from.len() {
-        if to.len() <= k {
-            return;
-        }
-        to[k] = from[k];
-        k += 1;
-    }
+    let n = from.len().min(to.len());
+    to[..n].copy_from_slice(&from[..n]);
 }
 
 // Lends as much as the call says.
@@ -129,16 +123,10 @@ pub fn asker_of(call: &[u64], end: f64) -> Asker {
 }
 
 fn touched(before: &[u64], after: &[u64]) -> u64 {
-    if before.len() < ROOM {
+    if before.len() < ROOM || after.len() < ROOM || before[ROOM..] != after[ROOM..] {
         return 2;
     }
-    if after.len() < ROOM {
-        return 2;
-    }
-    if !words::same(&before[ROOM..], &after[ROOM..]) {
-        return 2;
-    }
-    if words::same(before, after) { 0 } else { 1 }
+    if before == after { 0 } else { 1 }
 }
 
 // A plan's first words; the plans and the refused ones are counted in front.
