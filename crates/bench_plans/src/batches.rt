@@ -6,13 +6,12 @@ ghost use Rattle.verify_prices.specs.Rule.{mode_of};
 ghost use Rattle.gates.specs.Entry.{ragged_answer, block_answer};
 ghost use Rattle.bench_plans.specs.Figures.{drafter_of, rates_of, weighed_of, depth_of};
 
-use gates::Gated;
-use goodput::depth::Depth;
-use goodput::expected::Answer;
+use refusals::Refusal;
 use speculative::drafter::{DrafterCost, Rates};
 use verify_prices::inner::mode_of;
 
 // The drafter of a kind: 0 a fraction, 1 an autoregressive head, any other a block head. `a` and `b` are its sizes, the rest its counts.
+#[tactic(auto, unfolding(crate::specs::Figures::drafter_of))]
 pub fn drafter_of(kind: u32, a: f64, b: f64, c: u32, d: u32, e: u32) -> DrafterCost
     ensures { result ≡ drafter_of kind a b c d e }
 {
@@ -35,6 +34,7 @@ pub fn drafter_of(kind: u32, a: f64, b: f64, c: u32, d: u32, e: u32) -> DrafterC
 }
 
 // The rates, where the cost table needs no correction.
+#[tactic(auto, unfolding(crate::specs::Figures::rates_of))]
 pub fn rates_of(peak: f64, bw: f64) -> Rates
     ensures { result ≡ rates_of peak bw }
 {
@@ -46,12 +46,13 @@ pub fn rates_of(peak: f64, bw: f64) -> Rates
 }
 
 // The slots weighed; 2^64 - 1 where the gate is refused.
-fn weighed_of(answer: Gated) -> u64
+#[tactic(auto, unfolding(crate::specs::Figures::weighed_of))]
+fn weighed_of(answer: Result<usize, Refusal>) -> u64
     ensures { result ≡ weighed_of answer }
 {
     match answer {
-        Gated::Weighed(slots) => slots as u64,
-        Gated::Refused(_) => 18446744073709551615,
+        Ok(slots) => slots as u64,
+        Err(_) => 18446744073709551615,
     }
 }
 
@@ -66,15 +67,12 @@ pub extern "C" fn bench_expected(
     ensures value { result ≡ answer_number (expected_by_depth chains.now lengths.now gamma out.old).answer }
     ensures out_after { out.new ≡ (expected_by_depth chains.now lengths.now gamma out.old).out }
 {
-    let answer = goodput::expected::expected_by_depth(chains, lengths, gamma, out);
-    match answer {
-        Answer::Written => 0,
-        Answer::Refused(number) => number,
-    }
+    refusals::number_in(goodput::expected::expected_by_depth(chains, lengths, gamma, out))
 }
 
 // The best depth; 2^32 - 1 where it is refused.
 #[unsafe(no_mangle)]
+#[tactic(auto, unfolding(crate::specs::Figures::depth_of))]
 pub extern "C" fn bench_depth(
     expected: &[f64],
     curve: &[f64],
@@ -94,10 +92,9 @@ pub extern "C" fn bench_depth(
 {
     let drafter = drafter_of(kind, a, b, c, d, e);
     let rates = rates_of(peak, bw);
-    let answer = goodput::depth::best_depth(expected, curve, gamma, n, drafter, rates, loaded);
-    match answer {
-        Depth::Best(depth) => depth,
-        Depth::Refused(_) => 4294967295,
+    match goodput::depth::best_depth(expected, curve, gamma, n, drafter, rates, loaded) {
+        Ok(depth) => depth,
+        Err(_) => 4294967295,
     }
 }
 

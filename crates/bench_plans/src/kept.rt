@@ -1,30 +1,20 @@
 // The planner's storage: an empty one, a plan counted, and the series.
 ghost use Rattle.std.specs.Prelude.{◌≡◌};
+ghost use Rattle.refusals.specs.Refusals.{number_in};
 ghost use Rattle.ledger.specs.Calls.{emptied, recorded, series_read};
 ghost use Rattle.ledger.specs.declared.answer.Decision.TheVariants.{Nothing};
-ghost use Rattle.bench_plans.specs.Figures.{ledger_number, count_figure};
+ghost use Rattle.bench_plans.specs.Figures.{count_figure};
 
-use ledger::answer::{Answer, Count, Decision};
+use ledger::answer::Decision;
 use ledger_rows::layout::Step;
-
-// The number of the refusal, 0 for none.
-fn ledger_number(answer: Answer) -> u64
-    ensures { result ≡ ledger_number answer }
-{
-    match answer {
-        Answer::Done => 0,
-        Answer::Refused(number) => number,
-    }
-}
 
 // An empty planner; the number of the refusal, 0 for none.
 #[unsafe(no_mangle)]
 pub extern "C" fn bench_fresh(storage: &mut [u64]) -> u64
-    ensures value { result ≡ ledger_number (emptied storage.old).0 }
+    ensures value { result ≡ number_in (emptied storage.old).0 }
     ensures storage_after { storage.new ≡ (emptied storage.old).1 }
 {
-    let answer = ledger::fresh(storage);
-    ledger_number(answer)
+    refusals::number_in(ledger::fresh(storage))
 }
 
 // A plan of no worker is counted; the number of the refusal, 0 for none.
@@ -36,7 +26,7 @@ pub extern "C" fn bench_record(
     sequences: u64,
     committed: u64,
 ) -> u64
-    ensures value { result ≡ ledger_number (recorded storage.old (record { second = second; drafts = drafts; sequences = sequences; committed = committed }) Nothing).0 }
+    ensures value { result ≡ number_in (recorded storage.old (record { second = second; drafts = drafts; sequences = sequences; committed = committed }) Nothing).0 }
     ensures storage_after { storage.new ≡ (recorded storage.old (record { second = second; drafts = drafts; sequences = sequences; committed = committed }) Nothing).1 }
 {
     let step = Step {
@@ -45,12 +35,12 @@ pub extern "C" fn bench_record(
         sequences,
         committed,
     };
-    let answer = ledger::record(storage, step, Decision::Nothing);
-    ledger_number(answer)
+    refusals::number_in(ledger::record(storage, step, Decision::Nothing))
 }
 
 // How many seconds the series has; 2^64 - 1 where it is refused.
 #[unsafe(no_mangle)]
+#[tactic(auto, unfolding(crate::specs::Figures::count_figure))]
 pub extern "C" fn bench_series(
     storage: &[u64],
     seconds: &mut [u64],
@@ -64,9 +54,8 @@ pub extern "C" fn bench_series(
     ensures batches_after { batches.new ≡ (series_read storage.now seconds.old drafts.old batches.old committed.old).3 }
     ensures committed_after { committed.new ≡ (series_read storage.now seconds.old drafts.old batches.old committed.old).4 }
 {
-    let answer = ledger::series(storage, seconds, drafts, batches, committed);
-    match answer {
-        Count::Is(count) => count,
-        Count::Refused(_) => 18446744073709551615,
+    match ledger::series(storage, seconds, drafts, batches, committed) {
+        Ok(count) => count,
+        Err(_) => 18446744073709551615,
     }
 }

@@ -8,15 +8,15 @@ use crate::whole::{ask_of, settings_of};
 use settling::Settling;
 
 // The rounds; 2^64 - 1 where it is refused or the width never is the target.
+#[tactic(auto, unfolding(crate::specs::Ways::rounds_of))]
 fn rounds_of(answer: Settling) -> u64
     ensures { result ≡ rounds_of answer }
 {
     match answer {
         Settling::Within { rounds, .. } => rounds,
-        Settling::NoStep(_) => 18446744073709551615,
-        Settling::NoCandidate(_) => 18446744073709551615,
         Settling::AtOnce => 0,
-        Settling::Refused(_) => 18446744073709551615,
+        Settling::NoStep(_) | Settling::NoCandidate(_) | Settling::Refused(_) =>
+            18446744073709551615,
     }
 }
 

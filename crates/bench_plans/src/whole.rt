@@ -16,6 +16,7 @@ use switch_settings::{MaxStep, SwitchConstraints};
 use verify_prices::PriceMode;
 
 // 0 a constant, 1 a list of positions, any other a trace.
+#[tactic(auto, unfolding(crate::specs::Whole::model_of))]
 fn model_of(model: u32, alpha: f64) -> AcceptanceModel
     ensures { result ≡ model_of model alpha }
 {
@@ -29,6 +30,7 @@ fn model_of(model: u32, alpha: f64) -> AcceptanceModel
 }
 
 // 0 Fixed, 1 GoodputBudget, 2 GatedBudget, any other GatedAggregate.
+#[tactic(auto, unfolding(crate::specs::Whole::policy_of))]
 fn policy_of(policy: u32) -> Policy
     ensures { result ≡ policy_of policy }
 {
@@ -56,6 +58,7 @@ fn switch_of(cooldown: u32, cost_ms: f64) -> SwitchConstraints
 }
 
 // Prices come from the table where it has rows.
+#[tactic(auto, unfolding(crate::specs::Whole::source_of))]
 fn source_of(rows: usize) -> Source
     ensures { result ≡ source_of rows }
 {
@@ -119,6 +122,7 @@ pub fn ask_of(
 }
 
 // How many draws the plan used; 2^64 - 1 where it is refused.
+#[tactic(auto, unfolding(crate::specs::Whole::used_of))]
 fn used_of(answer: Planned) -> u64
     ensures { result ≡ used_of answer }
 {

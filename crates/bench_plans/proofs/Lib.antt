@@ -1,2 +1,0 @@
-mod Drafters
-mod Cases
