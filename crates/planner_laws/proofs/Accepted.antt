@@ -13,14 +13,16 @@ use Rattle.goodput.specs.declared.curve.Source.{Source}
 use Rattle.ledger_rows.proofs.Tests.{not_both}
 use Rattle.ledger_laws.specs.Model.{Change, record_of, step_rule, worker_rule}
 use Rattle.ledger_laws.specs.Encode.{past_from}
+use Rattle.refusals.specs.declared.Refusal.TheVariants.{Size, Input}
+use Rattle.planner_laws.proofs.Asked.{judge_holds}
 use Rattle.settings.specs.declared.Settings.{Settings}
 use Rattle.settings.specs.Settings.{settings_refusal, gamma_in}
 use Rattle.ledger_rows.specs.declared.layout.Past.{Past}
 use Rattle.asked_rooms.specs.declared.Ask.{Ask}
 use Rattle.ledger_rows.specs.Layout.{room}
-use Rattle.asking.specs.Asked.{Lent, lengths_of, costs_valued, values_refusal}
+use Rattle.asking.specs.Asked.{Lent, lengths_of, costs_valued, values_judged, values_refusal}
 use Rattle.asked_rooms.specs.Rooms.{rooms_refusal}
-use Rattle.asked_rooms.specs.Sizes.{bank_fits, table_fits, sizes_refusal}
+use Rattle.asked_rooms.specs.Sizes.{bank_fits, table_fits, sizes_judged, sizes_refusal}
 use Rattle.asking.specs.Values.{policy_valued}
 use Rattle.judged_plans.specs.declared.Planned.{Planned}
 use Rattle.judged_plans.specs.declared.Planned.TheVariants.{Empty}
@@ -61,9 +63,9 @@ right_holds false b e = absurd (not_both false e refl)
 -- ---- sizes
 
 pub sizes_gamma : (model : AcceptanceModel) (gamma n depth rounds : ℕ) (source : Source) (rows : ℕ) → sizes_refusal model gamma n depth rounds source rows ≡ 0 → (gamma ≤ 64) × (n ≤ 1024)
-unfolding sizes_refusal
+unfolding sizes_judged
 sizes_gamma model gamma n depth rounds source rows e =
-    let both : (leb gamma 64 && leb n 1024) && (bank_fits model depth rounds && table_fits source rows) ≡ true = test_holds _ 10 e in
+    let both : (leb gamma 64 && leb n 1024) && (bank_fits model depth rounds && table_fits source rows) ≡ true = judge_holds _ Size e in
     let sizes : leb gamma 64 && leb n 1024 ≡ true = left_holds (leb gamma 64 && leb n 1024) _ both in
     (leb-true gamma 64 (left_holds (leb gamma 64) (leb n 1024) sizes), leb-true n 1024 (right_holds (leb gamma 64) (leb n 1024) sizes))
 
@@ -87,8 +89,8 @@ module _ (s : Settings) (a : Ask) (l : Lent) (drafts commits : ℕ) (cs : List C
   unless_empty false answer e = (refl, e)
 
   values_hold : (past : Past) → values_refusal s a l past ≡ 0 → (costs_valued s a l ≡ true) × (policy_valued s.policy s.model s.switch (gamma_in s a.depth) l.bank_curve_of past ≡ true)
-  unfolding values_refusal
-  values_hold past e = let h = test_holds _ 14 e in (left_holds (costs_valued s a l) _ h, right_holds (costs_valued s a l) _ h)
+  unfolding values_judged
+  values_hold past e = let h = judge_holds _ Input e in (left_holds (costs_valued s a l) _ h, right_holds (costs_valued s a l) _ h)
 
   -- nothing is refused
   pub accepted : is_plan (answer_on s a l drafts commits cs) ≡ true → refusal_on s a l drafts commits cs ≡ 0

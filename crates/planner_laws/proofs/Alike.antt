@@ -7,13 +7,14 @@ use lib.Dec.{eqb}
 use lib.ListN.{length}
 use Rattle.ledger_rows.specs.declared.layout.Past.{Past}
 use Rattle.ledger_workers.specs.Workers.{past_of}
+use Rattle.planner_laws.proofs.Asked.{asked_by_number}
 use Rattle.settings.specs.declared.Settings.{Settings}
 use Rattle.settings.specs.Settings.{settings_refusal, gamma_in}
 use Rattle.rounds.specs.declared.drawing.Drawn.{Drawn}
 use Rattle.rounds.specs.declared.drawing.Drawn.TheVariants.{Used, Refused as NotDrawn}
 use Rattle.asked_rooms.specs.declared.Ask.{Ask}
-use Rattle.asking.specs.Asked.{Lent, lengths_of, asked_refusal, values_refusal}
-use Rattle.asked_rooms.specs.Rooms.{cost_rooms, bank_rooms, rooms_refusal}
+use Rattle.asking.specs.Asked.{Lent, lengths_of, asked_judged, asked_refusal, values_refusal}
+use Rattle.asked_rooms.specs.Rooms.{cost_rooms, bank_rooms, rooms_judged, rooms_refusal}
 use Rattle.deciding.specs.Deciding.{Decided, decided_by}
 use Rattle.planner.specs.Plan.{Left, curve_of, drawn, signals_refusal, best, plan_refusal, made, unless_refused, nothing_planned, planned}
 
@@ -35,12 +36,12 @@ module _ (s : Settings) (a : Ask) (l m : Lent) where
 
   module _ (h : Alike) (ws ds cs : List ℕ) where
     rooms_same : (n drafts commits : ℕ) → rooms_refusal s a (lengths_of l n drafts commits) ≡ rooms_refusal s a (lengths_of m n drafts commits)
-    unfolding rooms_refusal
+    unfolding rooms_judged
     rooms_same n drafts commits = let r = h.rooms_alike n drafts commits in cc (r.costs_alike, r.bank_alike)
 
     refusal_same : plan_refusal s a l ws ds cs ≡ plan_refusal s a m ws ds cs
-    unfolding plan_refusal asked_refusal
-    refusal_same = rw (rooms_same (length ws) (length ds) (length cs), h.values_alike (past_of ws a.a a.b), h.draws_alike, h.signals_alike)
+    unfolding plan_refusal
+    refusal_same = rw (asked_by_number s a l ws (length ds) (length cs), asked_by_number s a m ws (length ds) (length cs), rooms_same (length ws) (length ds) (length cs), h.values_alike (past_of ws a.a a.b), h.draws_alike, h.signals_alike)
 
     made_each : (draws : Drawn) (d : Decided) → made s a l ws ds cs draws d ≡ made s a m ws ds cs draws d
     unfolding made

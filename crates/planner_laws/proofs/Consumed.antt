@@ -9,8 +9,9 @@ use lib.Ieee.{Float}
 use lib.ListN.{length, take, drop}
 use Rattle.acceptance.specs.declared.AcceptanceModel.{AcceptanceModel}
 use Rattle.acceptance.specs.declared.Sample.{Sample}
-use Rattle.acceptance.specs.declared.Sample.TheVariants.{Accepted, Refused as NotAccepted}
-use Rattle.acceptance.specs.Acceptance.{sampled}
+use Rattle.std.specs.Prelude.{Result, Ok, Err}
+use Rattle.refusals.specs.declared.Refusal.{Refusal}
+use Rattle.acceptance.specs.Acceptance.{accepted, sampled}
 use Rattle.acceptance.proofs.Draws.{sample_bounded, unconsumed}
 use Rattle.acceptance.specs.declared.AcceptanceModel.TheVariants.{Constant, PerPosition, Trace}
 use Rattle.ledger_rows.proofs.Tests.{not_both}
@@ -55,23 +56,24 @@ module _ (model : AcceptanceModel) (positions : List Float) (gamma : ℕ) where
       later : ℕ → List Float → Batch
       later k xs = analytic model positions gamma n (drop k xs)
 
-      then : (c k v : ℕ) → sampled model positions 0 gamma draws ≡ Accepted c k → k ≤ length draws → (later k draws).answer ≡ Used v → u ≡ k + v
+      then : (c k v : ℕ) → sampled model positions 0 gamma draws ≡ Ok (accepted c k) → k ≤ length draws → (later k draws).answer ≡ Used v → u ≡ k + v
           → ((more : List Float) (v : ℕ) → (later k draws).answer ≡ Used v → analytic model positions gamma n (take v (drop k draws) ++ more) ≡ later k draws)
           → sequence_then (sampled model positions 0 gamma (take u draws ++ more)) (λ j. later j (take u draws ++ more)) ≡ sequence_then (sampled model positions 0 gamma draws) (λ j. later j draws)
       then c k v q few f w ih =
           let split : take u draws ++ more ≡ take k draws ++ (take v (drop k draws) ++ more) = rw (w, take_add k v draws) (append_assoc (take k draws) (take v (drop k draws)) more) in
-          let first : sampled model positions 0 gamma (take u draws ++ more) ≡ Accepted c k = rw split (unconsumed model positions 0 gamma draws (take v (drop k draws) ++ more) c k q) in
+          let first : sampled model positions 0 gamma (take u draws ++ more) ≡ Ok (accepted c k) = rw split (unconsumed model positions 0 gamma draws (take v (drop k draws) ++ more) c k q) in
           let rest : drop k (take u draws ++ more) ≡ take v (drop k draws) ++ more = rw split (drop_at_take k draws (take v (drop k draws) ++ more) few) in
           rw (first, q, rest, ih more v f)
 
-      go : (t : Sample) → sampled model positions 0 gamma draws ≡ t → (sequence_then t (λ j. later j draws)).answer ≡ Used u
+      go : (t : Result Sample Refusal) → sampled model positions 0 gamma draws ≡ t → (sequence_then t (λ j. later j draws)).answer ≡ Used u
           → ((k : ℕ) (more : List Float) (v : ℕ) → (later k draws).answer ≡ Used v → analytic model positions gamma n (take v (drop k draws) ++ more) ≡ later k draws)
           → sequence_then (sampled model positions 0 gamma (take u draws ++ more)) (λ j. later j (take u draws ++ more)) ≡ sequence_then (sampled model positions 0 gamma draws) (λ j. later j draws)
-      go (Accepted c k) q f ih =
+      go (Ok sample) q f ih =
           let b = rw q at (sample_bounded model positions gamma draws 0) in
+          let k = sample.used in
           let v = used_behind u k (later k draws).answer f in
-          then c k v.behind q (omega (arith, b.used_room)) v.is v.sum (ih k)
-      go (NotAccepted r) q f ih = absurd (let z : ◌≡◌ {A = ℕ} 0 1 = cc in omega arith)
+          then sample.commits k v.behind q (omega (arith, b.used_room)) v.is v.sum (ih k)
+      go (Err r) q f ih = absurd (let z : ◌≡◌ {A = ℕ} 0 1 = cc in omega arith)
 
 -- lent lists with other draws
 abbrev pub with_draws : Lent → List Float → Lent

@@ -23,13 +23,13 @@ use Rattle.verify_prices.specs.declared.PriceMode.{PriceMode}
 use Rattle.settings.specs.declared.Policy.{Policy}
 use Rattle.settings.specs.declared.Policy.TheVariants.{Fixed, GoodputBudget, GatedBudget, GatedAggregate}
 use Rattle.settings.specs.declared.Settings.{Settings}
-use Rattle.settings.specs.Settings.{settings_refusal, gamma_in}
+use Rattle.settings.specs.Settings.{settings_judged, settings_refusal, gamma_in}
 use Rattle.rounds.specs.Drawing.{and_used, replayed}
 use Rattle.rounds.specs.declared.drawing.Drawn.{Drawn}
 use Rattle.rounds.specs.declared.drawing.Drawn.TheVariants.{Used, Refused as NotDrawn}
 use Rattle.asked_rooms.specs.declared.Ask.{Ask}
-use Rattle.asking.specs.Asked.{Lent, asked_refusal, values_refusal}
-use Rattle.asked_rooms.specs.Rooms.{rooms_refusal}
+use Rattle.asking.specs.Asked.{Lent, asked_judged, asked_refusal, values_judged, values_refusal}
+use Rattle.asked_rooms.specs.Rooms.{rooms_judged, rooms_refusal}
 use Rattle.deciding.specs.Deciding.{Decided, chains_in, best_in, decided_by}
 use Rattle.judged_plans.specs.declared.Planned.{Planned}
 use Rattle.judged_plans.specs.declared.Planned.TheVariants.{Plan, Empty, Refused}
@@ -207,7 +207,7 @@ module _ (gamma : ℕ) (switch : SwitchConstraints) (drafter : DrafterCost) (pri
   l' = priced l roofline depths batches seconds loaded signals curve
 
   pub fixed_is_costless : (model : AcceptanceModel) → planned (fixed gamma model switch drafter prices) a' l' ws ds cs ≡ planned (fixed gamma model switch drafter prices) a l ws ds cs
-  unfolding planned plan_refusal asked_refusal rooms_refusal values_refusal signals_refusal drawn_by decided_by made
+  unfolding planned plan_refusal asked_judged rooms_judged values_judged signals_refusal drawn_by decided_by made
   fixed_is_costless (Constant alpha) = refl
   fixed_is_costless PerPosition = refl
   fixed_is_costless Trace = refl
@@ -219,7 +219,7 @@ module _ (gamma : ℕ) (model : AcceptanceModel) (switch : SwitchConstraints) (d
 
   pub mode_unread : (a : Ask) (l : Lent) (ws ds cs : List ℕ) (mode other : PriceMode) (policy : Policy) → (policy ≡ GatedBudget → ⊥)
       → planned (priced_by mode policy) a l ws ds cs ≡ planned (priced_by other policy) a l ws ds cs
-  unfolding planned plan_refusal asked_refusal rooms_refusal values_refusal signals_refusal drawn_by decided_by made settings_refusal curve_of
+  unfolding planned plan_refusal asked_judged rooms_judged values_judged signals_refusal drawn_by decided_by made settings_judged curve_of
   mode_unread a l ws ds cs mode other Fixed h = refl
   mode_unread a l ws ds cs mode other GoodputBudget h = refl
   mode_unread a l ws ds cs mode other GatedBudget h = absurd (h refl)

@@ -12,9 +12,9 @@ use Rattle.float.specs.Floats.{f0, f1, is_finite, is_clear}
 use Rattle.float.specs.Range.{in_range, in_range_or_infinite, in_signed_range}
 use Rattle.refusals.specs.Refusals.{first_of}
 use Rattle.numeral.specs.Moment.{second_of}
-use Rattle.acceptance.specs.Acceptance.{model_refusal, sampled}
+use Rattle.acceptance.specs.Acceptance.{model_judged, model_refusal, sampled}
 use Rattle.acceptance.specs.declared.AcceptanceModel.TheVariants.{Constant}
-use Rattle.speculative.specs.Drafter.{absent, drafter_refusal, rates_refusal}
+use Rattle.speculative.specs.Drafter.{absent, drafter_judged, drafter_refusal, rates_judged, rates_refusal}
 use Rattle.chains.specs.Tests.{all_of, is_price}
 use Rattle.goodput.specs.declared.curve.Source.TheVariants.{Roofline}
 use Rattle.switch_settings.specs.declared.MaxStep.TheVariants.{Unlimited}
@@ -23,15 +23,16 @@ use Rattle.ledger.specs.Calls.{emptied}
 use Rattle.ledger_laws.specs.Encode.{past_from}
 use Rattle.ledger_laws.specs.Model.{Change, counted, sums_at, record_of, seconds_of, workers_of, step_rule, worker_rule}
 use Rattle.verify_prices.specs.declared.PriceMode.TheVariants.{Default}
+use Rattle.refusals.proofs.First.{passed_is_zero}
 use Rattle.settings.specs.declared.Policy.TheVariants.{GatedAggregate}
 use Rattle.settings.specs.declared.Settings.{Settings}
-use Rattle.settings.specs.Settings.{settings_refusal}
+use Rattle.settings.specs.Settings.{settings_judged, settings_refusal}
 use Rattle.rounds.specs.Drawing.{analytic}
 use Rattle.rounds.specs.declared.drawing.Drawn.TheVariants.{Used}
 use Rattle.asked_rooms.specs.declared.Ask.{Ask}
-use Rattle.asking.specs.Asked.{Lent, lengths_of, values_refusal}
-use Rattle.asked_rooms.specs.Sizes.{sizes_refusal}
-use Rattle.asked_rooms.specs.Rooms.{rooms_refusal}
+use Rattle.asking.specs.Asked.{Lent, lengths_of, values_judged, values_refusal}
+use Rattle.asked_rooms.specs.Sizes.{sizes_judged, sizes_refusal}
+use Rattle.asked_rooms.specs.Rooms.{rooms_judged, rooms_refusal}
 use Rattle.deciding.specs.Deciding.{decided_by}
 use Rattle.judged_plans.specs.declared.Planned.TheVariants.{Plan, Refused}
 use Rattle.judged_plans.specs.declared.Planned.{Planned}
@@ -62,11 +63,11 @@ crowd (suc n) = plan settings (ask n) lent (0 ∷ []) (0 ∷ []) ∷ crowd n
 -- ---- a worker that has no record: nothing else is refused
 
 settings_fine : settings_refusal settings [] ≡ 0
-unfolding settings_refusal model_refusal drafter_refusal in_range is_clear lt eq of_bits
+unfolding settings_judged model_judged drafter_judged in_range is_clear lt eq of_bits
 settings_fine = refl
 
 rates_fine : (i : ℕ) → rates_refusal (ask i).rates ≡ 0
-unfolding rates_refusal in_range in_signed_range is_clear is_finite is_nan lt eq neg of_bits
+unfolding rates_judged in_range in_signed_range is_clear is_finite is_nan lt eq neg of_bits
 rates_fine i = refl
 
 prices_fine : all_of is_price (f1 ∷ []) ≡ true
@@ -74,8 +75,8 @@ unfolding all_of in_range_or_infinite in_range is_clear is_finite is_nan lt eq o
 prices_fine = refl
 
 asked_fine : (i : ℕ) → first_of (sizes_refusal settings.model 0 1 0 0 Roofline 0) (first_of (rooms_refusal settings (ask i) (lengths_of lent room 1 1)) (values_refusal settings (ask i) lent (past_from none))) ≡ 0
-unfolding sizes_refusal rooms_refusal values_refusal
-asked_fine i = rw (rates_fine i, prices_fine)
+unfolding sizes_judged rooms_judged values_judged
+asked_fine i = rw (passed_is_zero (rates_judged (ask i).rates) (rates_fine i), prices_fine)
 
 drawn_fine : (i : ℕ) → (drawn settings (ask i) lent).answer ≡ Used 0
 unfolding drawn_by analytic sampled

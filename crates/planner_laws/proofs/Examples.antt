@@ -6,9 +6,9 @@ use lib.Ieee.{Float, binary64, of_bits, lt, eq, neg}
 use lib.ListN.{length}
 use Rattle.float.specs.Floats.{f0, f1, is_clear}
 use Rattle.float.specs.Range.{in_range}
-use Rattle.acceptance.specs.Acceptance.{model_refusal, is_draw, sampled}
+use Rattle.acceptance.specs.Acceptance.{model_judged, model_refusal, is_draw, sampled}
 use Rattle.acceptance.specs.declared.AcceptanceModel.TheVariants.{Constant}
-use Rattle.speculative.specs.Drafter.{absent, drafter_refusal}
+use Rattle.speculative.specs.Drafter.{absent, drafter_judged, drafter_refusal}
 use Rattle.goodput.specs.declared.curve.Source.TheVariants.{Roofline}
 use Rattle.switch_settings.specs.declared.MaxStep.TheVariants.{Unlimited}
 use Rattle.ledger_rows.specs.Layout.{room}
@@ -17,12 +17,12 @@ use Rattle.ledger_laws.specs.Model.{sums_at, record_of, seconds_of, step_rule}
 use Rattle.verify_prices.specs.declared.PriceMode.TheVariants.{Default}
 use Rattle.settings.specs.declared.Policy.TheVariants.{Fixed}
 use Rattle.settings.specs.declared.Settings.{Settings}
-use Rattle.settings.specs.Settings.{settings_refusal}
+use Rattle.settings.specs.Settings.{settings_judged, settings_refusal}
 use Rattle.rounds.specs.Drawing.{analytic}
 use Rattle.asked_rooms.specs.declared.Ask.{Ask}
-use Rattle.asking.specs.Asked.{Lent, values_refusal}
-use Rattle.asked_rooms.specs.Sizes.{sizes_refusal}
-use Rattle.asked_rooms.specs.Rooms.{rooms_refusal}
+use Rattle.asking.specs.Asked.{Lent, values_judged, values_refusal}
+use Rattle.asked_rooms.specs.Sizes.{sizes_judged, sizes_refusal}
+use Rattle.asked_rooms.specs.Rooms.{rooms_judged, rooms_refusal}
 use Rattle.deciding.specs.Deciding.{decided_by}
 use Rattle.judged_plans.specs.declared.Planned.TheVariants.{Plan}
 use Rattle.planner.specs.Plan.{drawn_by, drawn, signals_refusal, planned}
@@ -53,7 +53,7 @@ lent = record { positions = []; roofline = []; depths = []; batches = []; second
 
 -- what the rules say where nothing stands
 by_the_rules : answer_on settings ask lent 1 1 [] ≡ Plan 2 0
-unfolding answer_on refusal_on settings_refusal model_refusal drafter_refusal in_range sizes_refusal rooms_refusal values_refusal signals_refusal drawn_by analytic sampled is_draw is_clear step_rule sums_at seconds_of decided_by lt eq neg of_bits
+unfolding answer_on refusal_on settings_judged model_judged drafter_judged in_range sizes_judged rooms_judged values_judged signals_refusal drawn_by analytic sampled is_draw is_clear step_rule sums_at seconds_of decided_by lt eq neg of_bits
 by_the_rules = refl
 
 commits_one : (drawn settings ask lent).commits ≡ 1 ∷ []

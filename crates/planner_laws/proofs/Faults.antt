@@ -5,11 +5,13 @@ use mathlib.Core.List.{List}
 use Prim.Native.Nat.{ℕ, suc, ◌<◌}
 use borrow.Author.Tests.{eq-eqb, lt-leb}
 use lib.Dec.{leb, eqb}
+use lib.ListN.{length}
+use Rattle.planner_laws.proofs.Asked.{asked_by_number}
 use Rattle.settings.specs.declared.Settings.{Settings}
 use Rattle.settings.specs.Settings.{settings_refusal}
 use Rattle.asked_rooms.specs.declared.Ask.{Ask}
-use Rattle.asking.specs.Asked.{Lent, asked_refusal}
-use Rattle.asked_rooms.specs.Sizes.{sizes_refusal}
+use Rattle.asking.specs.Asked.{Lent, asked_judged, asked_refusal}
+use Rattle.asked_rooms.specs.Sizes.{sizes_judged, sizes_refusal}
 use Rattle.judged_plans.specs.declared.Planned.TheVariants.{Refused}
 use Rattle.planner.specs.Plan.{plan_refusal, nothing_planned, planned}
 
@@ -31,11 +33,11 @@ module _ (s : Settings) (a : Ask) (l : Lent) (ws ds cs : List ℕ) where
 
   -- of which sizes come first
   sizes_go_first : sizes_refusal s.model s.gamma a.sequences a.depth a.rounds a.source a.rows ≡ 11 → plan_refusal s a l ws ds cs ≡ 11
-  unfolding plan_refusal asked_refusal
-  sizes_go_first e = rw e
+  unfolding plan_refusal
+  sizes_go_first e = rw (asked_by_number s a l ws (length ds) (length cs), e)
 
   too_large : leb s.gamma 64 && leb a.sequences 1024 ≡ false → sizes_refusal s.model s.gamma a.sequences a.depth a.rounds a.source a.rows ≡ 11
-  unfolding sizes_refusal
+  unfolding sizes_judged
   too_large e = rw e
 
   too_large_is_11 : settings_refusal s l.positions ≡ 0 → eqb a.sequences 0 ≡ false → leb s.gamma 64 && leb a.sequences 1024 ≡ false → (planned s a l ws ds cs).answer ≡ Refused 11

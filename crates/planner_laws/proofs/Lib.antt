@@ -1,3 +1,4 @@
+pub mod Asked
 pub mod Unwritten
 pub mod Accepted
 pub mod Drafts

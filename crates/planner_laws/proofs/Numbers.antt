@@ -1,5 +1,5 @@
 -- WHICH NUMBERS a plan may refuse by, on any content of the storage, and that 17 is for a constrained GatedAggregate alone. Assumes nothing.
-use mathlib.Core.Path.{◌≡◌, refl, ◌∙◌}
+use mathlib.Core.Path.{◌≡◌, refl, sym, ap, ◌∙◌}
 use mathlib.Core.Logic.{◌⊎◌, inl, inr, ⊎_elim}
 use mathlib.Core.Bool.{Bool, true, false, ◌&&◌, cond}
 use mathlib.Core.List.{List, [], ◌∷◌}
@@ -8,20 +8,20 @@ use native.Mathlib.Omega.{arith}
 use lib.Dec.{leb, ltb, eqb}
 use lib.Ieee.{Float}
 use lib.ListN.{length, get_or, take, drop}
-use Rattle.std.specs.Prelude.{Ok, Err}
-use Rattle.refusals.specs.declared.Refusal.TheVariants.{ShortBuffer, WorkerRoom, SecondRoom, StepRoom}
-use Rattle.refusals.specs.Refusals.{Judgement, passed_if, number_in, first_of}
+use Rattle.std.specs.Prelude.{Result, Ok, Err}
+use Rattle.refusals.specs.declared.Refusal.{Refusal}
+use Rattle.refusals.specs.declared.Refusal.TheVariants.{Size, Setting, AbsentDraw, Draw, Input, ShortBuffer, WorkerRoom, SecondRoom, StepRoom}
+use Rattle.refusals.specs.Refusals.{Judgement, passed_if, and_then, number_of, number_in, first_of}
 use Rattle.numeral.specs.Moment.{second_of}
 use Rattle.acceptance.specs.declared.AcceptanceModel.{AcceptanceModel}
 use Rattle.acceptance.specs.declared.AcceptanceModel.TheVariants.{Constant, PerPosition, Trace}
 use Rattle.acceptance.specs.declared.Sample.{Sample}
-use Rattle.acceptance.specs.declared.Sample.TheVariants.{Accepted, Refused as NotAccepted}
-use Rattle.acceptance.specs.Acceptance.{is_model, model_refusal, sampled}
+use Rattle.acceptance.specs.Acceptance.{is_model, model_judged, model_refusal, sampled}
 use Rattle.acceptance.proofs.Draws.{draw_refused}
-use Rattle.speculative.specs.Drafter.{is_drafter, drafter_refusal}
+use Rattle.speculative.specs.Drafter.{is_drafter, drafter_judged, drafter_refusal}
 use Rattle.float.specs.Floats.{f0}
 use Rattle.float.specs.Range.{in_range}
-use Rattle.switch_settings.specs.Switch.{most_cost, is_unconstrained, switch_refusal}
+use Rattle.switch_settings.specs.Switch.{most_cost, is_unconstrained, switch_judged}
 use Rattle.ledger_rows.specs.Layout.{seconds_most, workers_most, steps_most, second_at, room, steps_in}
 use Rattle.ledger_rows.proofs.Tests.{by_test, not_both}
 use Rattle.ledger_acts.specs.Acts.{place_allows, step_allows, worker_allows}
@@ -31,17 +31,17 @@ use Rattle.ledger.specs.Calls.{step_allowed, worker_allowed, step_judged, worker
 use Rattle.settings.specs.declared.Policy.{Policy}
 use Rattle.settings.specs.declared.Policy.TheVariants.{Fixed, GoodputBudget, GatedBudget, GatedAggregate}
 use Rattle.settings.specs.declared.Settings.{Settings}
-use Rattle.settings.specs.Settings.{settings_refusal, gamma_in, uses_signals, is_trace}
+use Rattle.settings.specs.Settings.{settings_judged, settings_refusal, gamma_in, uses_signals, is_trace}
 use Rattle.rounds.specs.Drawing.{and_used, sequence_then, analytic, replayed}
 use Rattle.rounds.specs.declared.drawing.Drawn.{Drawn}
 use Rattle.rounds.specs.declared.drawing.Drawn.TheVariants.{Used, Refused as NotDrawn}
 use Rattle.asked_rooms.specs.declared.Ask.{Ask}
 use Rattle.rounds.specs.Signals.{are_finite}
 use Rattle.asked_rooms.specs.declared.Lengths.{Lengths}
-use Rattle.asking.specs.Asked.{Lent, lengths_of, costs_valued, asked_refusal, values_refusal}
+use Rattle.asking.specs.Asked.{Lent, lengths_of, costs_valued, asked_judged, asked_refusal, values_judged, values_refusal}
 use Rattle.asking.specs.Values.{policy_valued}
-use Rattle.asked_rooms.specs.Rooms.{own_rooms, cost_rooms, bank_rooms, rooms_refusal}
-use Rattle.asked_rooms.specs.Sizes.{bank_fits, table_fits, sizes_refusal}
+use Rattle.asked_rooms.specs.Rooms.{own_rooms, cost_rooms, bank_rooms, rooms_judged, rooms_refusal}
+use Rattle.asked_rooms.specs.Sizes.{bank_fits, table_fits, sizes_judged, sizes_refusal}
 use Rattle.deciding.specs.Deciding.{Decided, decided_by}
 use Rattle.judged_plans.specs.declared.Planned.TheVariants.{Refused}
 use Rattle.planner.specs.Plan.{Left, depth_of, curve_of, drawn_by, drawn, drawn_refusal, signals_refusal, best, is_put, plan_refusal, made, unless_refused, nothing_planned, planned}
@@ -69,6 +69,10 @@ module _ (P : ℕ → Type 0) where
   either_judged true x y p q = p
   either_judged false x y p q = q
 
+  first_judged : (x y : Judgement) → P (number_in x) → P (number_in y) → P (number_in (and_then x y))
+  first_judged (Ok tt) y p q = q
+  first_judged (Err r) y p q = p
+
   first : (x y : ℕ) → P x → P y → P (first_of x y)
   first zero y p q = q
   first (suc x) y p q = p
@@ -88,10 +92,12 @@ module _ (P : ℕ → Type 0) where
     analytic_numbers model positions gamma (suc k) draws r e =
         go (sampled model positions 0 gamma draws) refl e (λ (u : ℕ). analytic_numbers model positions gamma k (drop u draws))
       where
-        go : (t : Sample) → sampled model positions 0 gamma draws ≡ t → (sequence_then t (λ u. analytic model positions gamma k (drop u draws))).answer ≡ NotDrawn r
+        go : (t : Result Sample Refusal) → sampled model positions 0 gamma draws ≡ t → (sequence_then t (λ u. analytic model positions gamma k (drop u draws))).answer ≡ NotDrawn r
             → ((u q : ℕ) → (analytic model positions gamma k (drop u draws)).answer ≡ NotDrawn q → P q) → P r
-        go (Accepted commits u) q h ih = after_draws u (analytic model positions gamma k (drop u draws)).answer r (ih u) h
-        go (NotAccepted m) q h ih = drawn_by_lem r (draw_refused model positions 0 gamma draws r (q ∙ cc))
+        go (Ok sample) q h ih = after_draws sample.used (analytic model positions gamma k (drop sample.used draws)).answer r (ih sample.used) h
+        go (Err m) q h ih =
+            let z : number_of m ≡ r = cc in
+            ⊎_elim (λ (e : m ≡ AbsentDraw). drawn_by_lem r (inl (sym z ∙ ap number_of e))) (λ (e : m ≡ Draw). drawn_by_lem r (inr (sym z ∙ ap number_of e))) (draw_refused model positions 0 gamma draws m q)
 
     replayed_numbers : (commits : List ℕ) (rounds k : ℕ) (indices : List ℕ) (r : ℕ) → (replayed commits rounds k indices).answer ≡ NotDrawn r → P r
     unfolding replayed
@@ -110,13 +116,13 @@ module _ (P : ℕ → Type 0) where
 
   module _ (n : Numbers P) where
     settings_numbers : (s : Settings) (positions : List Float) → P (settings_refusal s positions)
-    unfolding settings_refusal model_refusal drafter_refusal
+    unfolding settings_judged model_judged drafter_judged
     settings_numbers s positions =
-        let m : ℕ = model_refusal s.model positions in
-        let d : ℕ = drafter_refusal s.drafter in
-        let w : ℕ = switch_refusal s.switch in
-        first m (first_of d w) (either (is_model s.model positions) 0 12 n.none n.twelve)
-        (first d w (either (is_drafter s.drafter) 0 12 n.none n.twelve) (either (in_range f0 most_cost s.switch.cost_ms) 0 12 n.none n.twelve))
+        let m : Judgement = model_judged s.model positions in
+        let d : Judgement = drafter_judged s.drafter in
+        let w : Judgement = switch_judged s.switch in
+        first_judged m (and_then d w) (either_judged (is_model s.model positions) (Ok tt) (Err Setting) n.none n.twelve)
+        (first_judged d w (either_judged (is_drafter s.drafter) (Ok tt) (Err Setting) n.none n.twelve) (either_judged (in_range f0 most_cost s.switch.cost_ms) (Ok tt) (Err Setting) n.none n.twelve))
 
     module _ (s : Settings) (a : Ask) (l : Lent) where
       refusal_numbers : (d : Drawn) → ((r : ℕ) → d ≡ NotDrawn r → P r) → P (drawn_refusal s a l d)
@@ -130,17 +136,18 @@ module _ (P : ℕ → Type 0) where
           either (uses_signals s.policy && is_trace s.model) (cond fine 0 15) 0 (either fine 0 15 n.none n.fifteen) n.none
 
       asked_numbers : (ws : List ℕ) (drafts commits : ℕ) → P (asked_refusal s a l ws drafts commits)
-      unfolding asked_refusal sizes_refusal rooms_refusal values_refusal
+      unfolding asked_judged sizes_judged rooms_judged values_judged
       asked_numbers ws drafts commits =
-          let x : ℕ = sizes_refusal s.model s.gamma a.sequences a.depth a.rounds a.source a.rows in
-          let y : ℕ = rooms_refusal s a (lengths_of l (length ws) drafts commits) in
-          let z : ℕ = values_refusal s a l (past_of ws a.a a.b) in
+          let x : Judgement = sizes_judged s.model s.gamma a.sequences a.depth a.rounds a.source a.rows in
+          let y : Judgement = rooms_judged s a (lengths_of l (length ws) drafts commits) in
+          let z : Judgement = values_judged s a l (past_of ws a.a a.b) in
           let g : ℕ = gamma_in s a.depth in
           let r : Lengths = lengths_of l (length ws) drafts commits in
           let sized : Bool = (leb s.gamma 64 && leb a.sequences 1024) && (bank_fits s.model a.depth a.rounds && table_fits a.source a.rows) in
           let roomy : Bool = own_rooms a.sequences r && (cost_rooms s.policy s.drafter a.source g a.sequences a.rows r && bank_rooms s.model s.policy g a.depth a.rounds r) in
           let valued : Bool = costs_valued s a l && policy_valued s.policy s.model s.switch g l.bank_curve_of (past_of ws a.a a.b) in
-          first x (first_of y z) (either sized 0 11 n.none n.eleven) (first y z (either roomy 0 16 n.none n.sixteen) (either valued 0 15 n.none n.fifteen))
+          first_judged x (and_then y z) (either_judged sized (Ok tt) (Err Size) n.none n.eleven)
+          (first_judged y z (either_judged roomy (Ok tt) (Err ShortBuffer) n.none n.sixteen) (either_judged valued (Ok tt) (Err Input) n.none n.fifteen))
 
       step_numbers : (ws : List ℕ) (t : ℕ) → P (step_judged ws t)
       unfolding step_allowed step_allows place_allows

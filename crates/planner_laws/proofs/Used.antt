@@ -30,7 +30,7 @@ use Rattle.settings.specs.declared.Settings.{Settings}
 use Rattle.settings.specs.Settings.{gamma_in, uses_costs, uses_signals, is_trace}
 use Rattle.rounds.specs.Signals.{round_chains}
 use Rattle.asked_rooms.specs.declared.Ask.{Ask}
-use Rattle.asking.specs.Asked.{Lent, table_of, lengths_of, costs_valued, values_refusal}
+use Rattle.asking.specs.Asked.{Lent, table_of, lengths_of, costs_valued, values_judged, values_refusal}
 use Rattle.asking.specs.Values.{prices_valued, loaded_valued, policy_valued}
 use Rattle.asked_rooms.specs.Rooms.{price_rooms, loaded_room, cost_rooms, signal_rooms, bank_rooms}
 use Rattle.verify_prices.specs.declared.PriceMode.{PriceMode}
@@ -155,7 +155,7 @@ module _ (s : Settings) (a : Ask) (l m : Lent) (h : SameLists s a l m) where
       (λ q. rw q)
 
   values_same : (past : Past) → values_refusal s a l past ≡ values_refusal s a m past
-  unfolding values_refusal
+  unfolding values_judged
   values_same past = cc (costs_valued_lem, policy_valued_lem a l m s.policy s.model (gamma_in s a.depth) h.curve_same s.switch past)
 
   drawn_same : (model : AcceptanceModel) → (is_trace model ≡ false → l.draws ≡ m.draws) → (is_trace model ≡ true → Rounds a l m) → drawn_by s a l model ≡ drawn_by s a m model

@@ -25,6 +25,7 @@ use Rattle.ledger_laws.specs.Model.{Worker, Switching, Change, planned as plain,
 use Rattle.ledger_laws.specs.Encode.{past_from, encode}
 use Rattle.ledger_laws.specs.Run.{record_from, record_in}
 use Rattle.ledger_laws.proofs.Forth.{Reached, wide_enough, by_rule, by_worker_rule, record_read, plan_made, decide_made, read_back}
+use Rattle.planner_laws.proofs.Asked.{asked_by_number}
 use Rattle.settings.specs.declared.Policy.{Policy}
 use Rattle.settings.specs.declared.Policy.TheVariants.{Fixed, GoodputBudget, GatedBudget, GatedAggregate}
 use Rattle.settings.specs.declared.Settings.{Settings}
@@ -33,8 +34,8 @@ use Rattle.rounds.specs.declared.drawing.Drawn.{Drawn}
 use Rattle.rounds.specs.declared.drawing.Drawn.TheVariants.{Used, Refused as NotDrawn}
 use Rattle.asked_rooms.specs.declared.Ask.{Ask}
 use Rattle.asked_rooms.specs.declared.Lengths.{Lengths}
-use Rattle.asking.specs.Asked.{Lent, lengths_of, asked_refusal}
-use Rattle.asked_rooms.specs.Rooms.{price_rooms, loaded_room, signal_rooms, bank_rooms, rooms_refusal}
+use Rattle.asking.specs.Asked.{Lent, lengths_of, asked_judged, asked_refusal}
+use Rattle.asked_rooms.specs.Rooms.{price_rooms, loaded_room, signal_rooms, bank_rooms, rooms_judged, rooms_refusal}
 use Rattle.deciding.specs.Deciding.{Decided, decided_by}
 use Rattle.judged_plans.specs.declared.Planned.{Planned}
 use Rattle.judged_plans.specs.declared.Planned.TheVariants.{Empty}
@@ -74,7 +75,7 @@ module _ (s : Settings) (a : Ask) (l : Lent) (n m drafts commits : ℕ) where
   bank_same Trace policy gamma depth rounds = ap (λ (b : Bool). leb rounds (length l.bank_commits_of) && b) (signal_same policy gamma depth rounds)
 
   rooms_same : room ≤ n → room ≤ m → rooms_refusal s a one ≡ rooms_refusal s a other
-  unfolding rooms_refusal
+  unfolding rooms_judged
   rooms_same h k =
       let g : ℕ = gamma_in s a.depth in
       let own : leb room n ≡ leb room m = le-leb room n h ∙ sym (le-leb room m k) in
@@ -119,8 +120,9 @@ module _ (s : Settings) (a : Ask) (l : Lent) (S : Ledger) (rest : List ℕ) (r :
 
   module _ (ds cs : List ℕ) where
     refusal_is : plan_refusal s a l E ds cs ≡ refusal_on s a l (length ds) (length cs) S.changes
-    unfolding plan_refusal refusal_on asked_refusal
+    unfolding plan_refusal refusal_on
     refusal_is = rw (
+      asked_by_number s a l E (length ds) (length cs),
       rooms_same s a l (length E) room (length ds) (length cs) (wide_enough S rest) (omega arith),
       record_read S rest r w,
       by_worker_rule S rest r w,

@@ -7,9 +7,9 @@ use lib.Ieee.{Float, of_bits, binary64, to_bits, is_nan, lt, neg, add, mul, div,
 use Rattle.float.specs.Floats.{f0, f1, infinity, is_finite, is_clear, max_of, clamp_to}
 use Rattle.float.specs.Range.{in_range, in_range_or_infinite, in_signed_range}
 use Rattle.numeral.specs.Moment.{second_of}
-use Rattle.acceptance.specs.Acceptance.{model_refusal, is_draw, sampled}
+use Rattle.acceptance.specs.Acceptance.{model_judged, model_refusal, is_draw, sampled}
 use Rattle.acceptance.specs.declared.AcceptanceModel.TheVariants.{Constant}
-use Rattle.speculative.specs.Drafter.{absent, drafter_refusal, rates_refusal}
+use Rattle.speculative.specs.Drafter.{absent, drafter_judged, drafter_refusal, rates_judged, rates_refusal}
 use Rattle.chains.specs.Expected.{add_running, sums_with}
 use Rattle.chains.specs.Scan.{scan}
 use Rattle.chains.specs.Survival.{survival_chain}
@@ -22,14 +22,14 @@ use Rattle.width_walk.specs.Walk.{first_at_least}
 use Rattle.switching.specs.Deciding.{finite_from, candidates_of, at_first}
 use Rattle.ledger_laws.specs.Model.{Switching, record_of, sums_at, counted, seconds_of, step_rule, worker_rule, workers_of}
 use Rattle.verify_prices.specs.declared.PriceMode.TheVariants.{Default}
-use Rattle.settings.specs.Settings.{settings_refusal}
+use Rattle.settings.specs.Settings.{settings_judged, settings_refusal}
 use Rattle.settings.specs.declared.Policy.TheVariants.{GatedAggregate}
 use Rattle.settings.specs.declared.Settings.{Settings}
 use Rattle.rounds.specs.Drawing.{analytic}
 use Rattle.rounds.specs.Signals.{same_chains, values_from}
-use Rattle.asked_rooms.specs.Rooms.{rooms_refusal}
-use Rattle.asked_rooms.specs.Sizes.{sizes_refusal}
-use Rattle.asking.specs.Asked.{Lent, values_refusal}
+use Rattle.asked_rooms.specs.Rooms.{rooms_judged, rooms_refusal}
+use Rattle.asked_rooms.specs.Sizes.{sizes_judged, sizes_refusal}
+use Rattle.asking.specs.Asked.{Lent, values_judged, values_refusal}
 use Rattle.deciding.specs.Deciding.{decided_by}
 use Rattle.planner.specs.Plan.{drawn_by, signals_refusal, curve_of}
 use Rattle.planner_laws.proofs.Examples.{half, quarter, ask}
@@ -81,5 +81,5 @@ pub two_rounds :
     (rounds_for settings.switch (away_from (0 ∷ 1 ∷ 2 ∷ []) 2 0) ≡ 2)
     × (left (free ∷ dear ∷ []) ≡ some (record { width = 1; rounds = 0; stall = 0 }))
     × (left (free ∷ dear ∷ dear ∷ []) ≡ some (record { width = 0; rounds = 0; stall = 0 }))
-unfolding record_of given after step answer_on refusal_on change_on settings_refusal model_refusal drafter_refusal rates_refusal in_range in_range_or_infinite in_signed_range is_nan is_clear is_finite max_of clamp_to sizes_refusal rooms_refusal values_refusal signals_refusal drawn_by analytic sampled is_draw step_rule sums_at counted seconds_of worker_rule workers_of second_of decided_by curve_of add_running sums_with scan survival_chain all_of best_of exceeded first_best total_cost same_chains values_from finite_from first_at_least lt neg add mul div round of_bits of_int to_bits
+unfolding record_of given after step answer_on refusal_on change_on settings_judged model_judged drafter_judged rates_judged in_range in_range_or_infinite in_signed_range is_nan is_clear is_finite max_of clamp_to sizes_judged rooms_judged values_judged signals_refusal drawn_by analytic sampled is_draw step_rule sums_at counted seconds_of worker_rule workers_of second_of decided_by curve_of add_running sums_with scan survival_chain all_of best_of exceeded first_best total_cost same_chains values_from finite_from first_at_least lt neg add mul div round of_bits of_int to_bits
 two_rounds = (refl, refl, refl)
