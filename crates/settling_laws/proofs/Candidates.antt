@@ -9,10 +9,13 @@ use lib.Dec.{eqb}
 use borrow.Author.Tests.{eqb-true}
 use lib.ListN.{length, get_or, take}
 use lib.Ieee.{Float, nan, is_nan, neg, lt, of_bits}
+use Rattle.std.specs.Prelude.{is_ok}
+use Rattle.refusals.specs.Refusals.{number_in}
+use Rattle.refusals.proofs.First.{ok_passed}
 use Rattle.laws.proofs.Both.{both}
 use Rattle.float.specs.Floats.{f0, is_finite}
 use Rattle.float.specs.Range.{in_signed_range}
-use Rattle.speculative.specs.Drafter.{billion, rates_refusal}
+use Rattle.speculative.specs.Drafter.{billion, rates_judged, rates_refusal}
 use Rattle.cost_rows.specs.Table.{Row}
 use Rattle.cost_rows.specs.Lawful.{lawful}
 use Rattle.step_times.specs.Prices.{prices}
@@ -64,12 +67,12 @@ by_table gamma n kv t small range law =
 module _ (s : Settings) (a : Ask) (l : Lent) (gated : s.policy ≡ GatedAggregate) where
   costs_valued_lem : costs_valued s a l ≡ true → (rates_refusal a.rates ≡ 0) × (prices_valued a.source (gamma_in s a.depth) l.roofline (table_of a l) ≡ true)
   costs_valued_lem e =
-      let rates = eqb (rates_refusal a.rates) 0 in
+      let rates = is_ok (rates_judged a.rates) in
       let priced = prices_valued a.source (gamma_in s a.depth) l.roofline (table_of a l) in
       let loaded = loaded_valued s.drafter a.sequences l.loaded in
       let used : rates && (priced && loaded) ≡ true = sym (ap (λ (p : Policy). cond (uses_costs p) (rates && (priced && loaded)) true) gated) ∙ e in
       let one = both rates (priced && loaded) used in
-      (eqb-true (rates_refusal a.rates) 0 one.0, (both priced loaded one.1).0)
+      (ap number_in (ok_passed (rates_judged a.rates) one.0), (both priced loaded one.1).0)
 
   by_source : s.gamma ≤ 64 → rates_refusal a.rates ≡ 0 → (x : Source) → prices_valued x (gamma_in s a.depth) l.roofline (table_of a l) ≡ true
       → candidates_of (in_force l.roofline (prices a.sequences a.rates.kv_delta (table_of a l)) x (gamma_in s a.depth))
