@@ -9,8 +9,10 @@ pub returns-then-out-kept : goal.returns-then-out-kept
 returns-then-out-kept c =
     let a = c.args in
     let k = c.kept_of-kept in
-    elim c.then-out-kept.branch [ then-out-kept-via-then-out-kept w ↦ folder_too_long a.day.now a.name.now a.out.now k.result k.ensures w.if-out-kept.true
-    | then-out-kept-via-else-out-kept+then-out-kept-2 w ↦ path_too_long a.day.now a.name.now a.out.now k.result k.ensures w.if-out-kept.false w.if-out-kept-2.true ]
+    elim c.then-out-kept.branch [
+      | then-out-kept-via-then-out-kept w ↦ folder_too_long a.day.now a.name.now a.out.now k.result k.ensures w.if-out-kept.true
+      | then-out-kept-via-else-out-kept+then-out-kept-2 w ↦ path_too_long a.day.now a.name.now a.out.now k.result k.ensures w.if-out-kept.false w.if-out-kept-2.true
+    ]
 
 pub slice_bounds-put_both-end : goal.slice_bounds-put_both-end
 slice_bounds-put_both-end c =
