@@ -30,7 +30,8 @@ fn play_from(
 {
     let mut rest = input;
     let mut at = start;
-    while 0 < rest.len() {
+    // no index is counted: each turn takes as many words as its first says
+    while !rest.is_empty() {
         let size = size(rest);
         at = turn(&rest[0..size], set, floats, wholes, storage, ours, at);
         rest = &rest[size..];
