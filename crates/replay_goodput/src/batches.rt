@@ -13,11 +13,7 @@ pub fn print(rt: HostRuntime, counts: &[u64]) {
 }
 
 pub fn is_batch(kind: u8) -> bool {
-    match kind {
-        b'e' => true,
-        b'a' => true,
-        _ => false,
-    }
+    matches!(kind, b'e' | b'a')
 }
 
 // Lends the chains and their lengths.

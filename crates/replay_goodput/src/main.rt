@@ -55,9 +55,7 @@ fn replay(
     let mut counts = [0u64; 78];
     let mut end = case_files::refill(file, room, 0, 0);
     let mut at = case_files::print_line(rt, &room[..end]);
-    let mut turns = 0u64;
-    while turns < MOST_CASES {
-        turns += 1;
+    for _ in 0..MOST_CASES {
         let case = cases::line::next(file, room, words, at, end);
         if case.kind == 0 {
             finish(rt, case, &counts);

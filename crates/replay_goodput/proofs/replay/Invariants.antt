@@ -1,8 +1,0 @@
-use Rattle.std.proofs.Common.{◌≡◌, ◌≤◌, ◌-◌, length}
-use Rattle.replay_goodput.proofs.replay.Given as goal
-
-abbrev pub invariant-loop-turns : goal.invariant-loop-turns
-invariant-loop-turns l = (l.turns ≤ 1099511627776) × (length l.room ≡ length l.initial.room) × (length l.words ≡ length l.initial.words) × (length l.ours ≡ length l.initial.ours) × (length l.chains ≡ length l.initial.chains) × (length l.counts ≡ 78)
-
-abbrev pub decreases-loop-turns : goal.decreases-loop-turns
-decreases-loop-turns l = 1099511627776 - l.turns
