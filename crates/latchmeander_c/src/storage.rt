@@ -2,7 +2,7 @@
 ghost use Rattle.std.specs.Prelude.{◌≡◌};
 ghost use Rattle.ledger_rows.specs.Layout.{room, seconds_held, workers_held, available};
 ghost use Rattle.ledger.specs.Calls.{emptied, collected, withdrawn, count_of as counted, series_read, day_figure, worker_of};
-ghost use Rattle.host.specs.Answers.{answer_of, count_of, stall_of, mean_of, found_of};
+ghost use Rattle.host.specs.Answers.{answer_of, count_of, figure_of, found_of};
 ghost use Rattle.latchmeander.specs.Calls.{on_first, series_handed};
 
 use host::answers::{HostCount, HostFigure, HostWorker};
@@ -26,7 +26,7 @@ pub extern "C" fn latchmeander_fresh(storage: &mut [u64]) -> u64
 // A worker's stall, cleared.
 #[unsafe(no_mangle)]
 pub extern "C" fn latchmeander_collect(storage: &mut [u64], a: u64, b: u64) -> HostFigure
-    ensures { (result, storage.new) ≡ on_first stall_of (collected storage.old a b) }
+    ensures { (result, storage.new) ≡ on_first figure_of (collected storage.old a b) }
 {
     latchmeander::storage::latchmeander_collect(storage, a, b)
 }
@@ -86,7 +86,7 @@ pub extern "C" fn latchmeander_series(
 // The mean of the seconds' mean drafts.
 #[unsafe(no_mangle)]
 pub extern "C" fn latchmeander_day_figure(storage: &[u64]) -> HostFigure
-    ensures { result ≡ mean_of (day_figure storage.now) }
+    ensures { result ≡ figure_of (day_figure storage.now) }
 {
     latchmeander::storage::latchmeander_day_figure(storage)
 }
