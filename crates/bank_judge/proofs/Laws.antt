@@ -19,7 +19,7 @@ use Rattle.blocks.specs.Blocks.{find, all_ascii}
 use Rattle.text.specs.Lines.{starts_with, lines}
 use Rattle.text.specs.Fields.{fields, same_text}
 use Rattle.text.proofs.Walk.{drop_more}
-use Rattle.first_field.specs.Front.{field_length, length_judged}
+use Rattle.first_field.specs.Front.{field_length}
 use Rattle.numeral.specs.Spelling.{whole_of}
 use Rattle.decimals.specs.Decimals.{Decimal, decimal_of, without_value}
 use Rattle.bank_judge.specs.Judge.{Answer, sized, refused_in, commits_name, depth_of, header_judged, signals_judged, row_judged, round_judged, at_row, unless, judge_rows, room_for, judge_lines, judged}
@@ -66,15 +66,6 @@ field_found (b ∷ s) = go (eqb b 44) (field_found s)
 -- a field that is passed over
 pub signal_skipped : (k : ℕ) (f : List ℕ) (fs : List (List ℕ)) → 0 < k → signals_judged (drop k (f ∷ fs)) ≡ signals_judged (drop (k - 1) fs)
 signal_skipped k f fs h = ap signals_judged (drop_more k f fs h)
-
--- what the judge of a first field says of its decimal
-pub length_passed : (d : Decimal) (l n : ℕ) → length_judged d l ≡ Ok n → (without_value d ≡ Ok tt) × (n ≡ l)
-length_passed (Ok v) l n e = let same : n ≡ l = cc in (refl, same)
-length_passed (Err refusal) l n e = absurd (no_answer refusal n e)
-
-pub length_refused : (d : Decimal) (l : ℕ) (r : Refusal) → length_judged d l ≡ Err r → without_value d ≡ Err r
-length_refused (Ok v) l r e = absurd (no_answer r l (sym e))
-length_refused (Err refusal) l r e = let same : refusal ≡ r = cc in ap Err same
 
 -- a field that is judged: m is its judgement
 pub signal_refused : (k : ℕ) (m : Judgement) (r : Refusal) (f : List ℕ) (fs : List (List ℕ)) → k ≤ 0 → m ≡ without_value (decimal_of f) → m ≡ Err r → signals_judged (drop k (f ∷ fs)) ≡ Err r
@@ -147,10 +138,18 @@ round_facts width skip room row round = go (row_judged width skip row) (ltb roun
     go (Ok y) false b f g e = absurd (no_answer Size tt e)
     go (Err refusal) a b f g e = absurd (no_answer refusal tt e)
 
+round_refused : (width skip room : ℕ) (row : List (List ℕ)) (round : ℕ) (refusal : Refusal) → row_judged width skip row ≡ Err refusal → round_judged width skip room row round ≡ Err refusal
+unfolding round_judged
+round_refused width skip room row round refusal said = ap (λ (j : Judgement). and_then j (and_then (passed_if (ltb round 65536) Size) (passed_if (ltb round room) ShortBuffer))) said
+
 module _ (width skip room : ℕ) (row : List (List ℕ)) (round : ℕ) (passes : row_judged width skip row ≡ Ok tt) where
   round_many : 65536 ≤ round → round_judged width skip room row round ≡ Err Size
   unfolding round_judged
   round_many h = rw (passes, le-ltb round 65536 h)
+
+  round_fits : round < 65536 → round < room → round_judged width skip room row round ≡ Ok tt
+  unfolding round_judged
+  round_fits h k = rw (passes, lt-ltb round 65536 h, lt-ltb round room k)
 
   round_full : round < 65536 → room ≤ round → round_judged width skip room row round ≡ Err ShortBuffer
   unfolding round_judged
@@ -171,28 +170,40 @@ module _ (width skip depth room : ℕ) where
     open_row : judge_rows width skip depth room rows round ≡ opened m
     open_row = ap (λ (r : List (List ℕ)). judge_rows width skip depth room r round) e ∙ ap opened (sym f)
 
-    pub rows_refused : (q : RefusedRow) → m ≡ Err q → judge_rows width skip depth room rows round ≡ Err q
-    rows_refused q n = open_row ∙ ap opened n
+    pub rows_end : (q : RefusedRow) → m ≡ Err q → judge_rows width skip depth room rows round ≡ Err q
+    rows_end q n = open_row ∙ ap opened n
 
-    pub rows_next : (x : ⊤) → m ≡ Ok x → judge_rows width skip depth room rows round ≡ judge_rows width skip depth room rest (round + 1)
-    rows_next x n = open_row ∙ ap opened n ∙ ap (judge_rows width skip depth room rest) (sym (add-one round))
+    pub rows_go_on : (x : ⊤) → m ≡ Ok x → judge_rows width skip depth room rows round ≡ judge_rows width skip depth room rest (round + 1)
+    rows_go_on x n = open_row ∙ ap opened n ∙ ap (judge_rows width skip depth room rest) (sym (add-one round))
 
     pub rows_few : (x : ⊤) → m ≡ Ok x → round < 65536
     rows_few x n =
         let j = round_judged width skip room (fields line) round in
         (round_facts width skip room (fields line) round (row_passed j (round + 2) x (sym f ∙ n))).1.0
 
+  -- a row's own refusal goes first, whatever the round and the room
+  pub rows_refused : (rows : List (List ℕ)) (line : List ℕ) (rest : List (List ℕ)) (round : ℕ) → rows ≡ line ∷ rest → (refusal : Refusal) → row_judged width skip (fields line) ≡ Err refusal
+      → judge_rows width skip depth room rows round ≡ refused_in refusal (round + 2)
+  rows_refused rows line rest round e refusal said =
+      rows_end rows line rest round (at_row (round_judged width skip room (fields line) round) (round + 2)) e refl (record { refusal = refusal; row = round + 2 })
+      (ap (λ (j : Judgement). at_row j (round + 2)) (round_refused width skip room (fields line) round refusal said))
+
   -- past a row that is not refused
   module _ (rows : List (List ℕ)) (line : List ℕ) (rest : List (List ℕ)) (round : ℕ) (e : rows ≡ line ∷ rest) (passes : row_judged width skip (fields line) ≡ Ok tt) where
     pub rows_many : 65536 ≤ round → judge_rows width skip depth room rows round ≡ refused_in Size (round + 2)
     rows_many h =
-        rows_refused rows line rest round (at_row (round_judged width skip room (fields line) round) (round + 2)) e refl (record { refusal = Size; row = round + 2 })
+        rows_end rows line rest round (at_row (round_judged width skip room (fields line) round) (round + 2)) e refl (record { refusal = Size; row = round + 2 })
         (ap (λ (j : Judgement). at_row j (round + 2)) (round_many width skip room (fields line) round passes h))
 
     pub rows_full : round < 65536 → room ≤ round → judge_rows width skip depth room rows round ≡ refused_in ShortBuffer (round + 2)
     rows_full h k =
-        rows_refused rows line rest round (at_row (round_judged width skip room (fields line) round) (round + 2)) e refl (record { refusal = ShortBuffer; row = round + 2 })
+        rows_end rows line rest round (at_row (round_judged width skip room (fields line) round) (round + 2)) e refl (record { refusal = ShortBuffer; row = round + 2 })
         (ap (λ (j : Judgement). at_row j (round + 2)) (round_full width skip room (fields line) round passes h k))
+
+    pub rows_next : round < 65536 → round < room → judge_rows width skip depth room rows round ≡ judge_rows width skip depth room rest (round + 1)
+    rows_next h k =
+        rows_go_on rows line rest round (at_row (round_judged width skip room (fields line) round) (round + 2)) e refl tt
+        (ap (λ (j : Judgement). at_row j (round + 2)) (round_fits width skip room (fields line) round passes h k))
 
 -- ---- the header and the rows
 

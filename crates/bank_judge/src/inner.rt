@@ -32,19 +32,20 @@ fn depth_of(header: &[u8]) -> usize
 fn judge_header(header: &[u8], room: usize) -> Result<(), Refusal>
     ensures { result ≡ header_judged (fields header.now) room }
 {
+    if !text::same(text::field(header, 0), b"commits") {
+        return Err(Refusal::WrongHeader);
+    }
     let depth = depth_of(header);
-    if text::same(text::field(header, 0), b"commits") && 0 < depth {
-        if text::field_count(header) <= MOST_COLUMNS && depth <= MOST_DEPTH {
-            if depth < room {
-                Ok(())
-            } else {
-                Err(Refusal::ShortBuffer)
-            }
+    if depth == 0 {
+        Err(Refusal::WrongHeader)
+    } else if text::field_count(header) <= MOST_COLUMNS && depth <= MOST_DEPTH {
+        if depth < room {
+            Ok(())
         } else {
-            Err(Refusal::Size)
+            Err(Refusal::ShortBuffer)
         }
     } else {
-        Err(Refusal::WrongHeader)
+        Err(Refusal::Size)
     }
 }
 
@@ -60,7 +61,9 @@ fn judge_signals(line: &[u8], skip: usize) -> Result<(), Refusal>
             left -= 1;
             blocks::near::find(rest, b',')
         } else {
-            first_field::inner::judge(rest)?
+            let front = first_field::inner::judge(rest);
+            front.judged?;
+            front.length
         };
         if rest.len() <= comma {
             return Ok(());

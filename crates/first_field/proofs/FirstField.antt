@@ -14,15 +14,12 @@ use Rattle.laws.proofs.Both.{or_right}
 use Rattle.laws.proofs.Lists.{next}
 use Rattle.digits.specs.declared.Digits.{Digits}
 use Rattle.digits.specs.Digits.{is_digit, number, count_while, leading_digits, point, is_no_point}
-use Rattle.std.proofs.Common.{Result, Ok, Err}
-use Rattle.refusals.specs.declared.Refusal.{Refusal}
-use Rattle.refusals.specs.Refusals.{Judgement, and_then, number_in}
-use Rattle.first_field.specs.Front.{is_no_comma, field_length, length_judged}
-use Rattle.decimals.specs.Decimals.{Decimal, Spelled, of_parts, unsigned_of, decimal_of, without_value}
+use Rattle.first_field.specs.Front.{is_no_comma, field_length}
+use Rattle.decimals.specs.Decimals.{Spelled, of_parts, unsigned_of, decimal_of}
 use Rattle.digits.specs.Signs.{after_sign, is_negative, is_sign, is_minus}
-use Rattle.digits.proofs.Bytes.{count_le, count_past, count_goes_on}
+use Rattle.digits.proofs.Bytes.{count_past, count_goes_on}
 use Rattle.digits.proofs.Leading.{number_append, capped_before, count_is, number_is}
-use Rattle.decimals.proofs.Outcomes.{at_point, digits_before, signless}
+use Rattle.decimals.proofs.Outcomes.{at_point, digits_before}
 
 -- ---- signs, digits and the point are no commas
 
@@ -89,13 +86,6 @@ module _ (t : List ℕ) (k : ℕ) (count : k ≡ count_while is_digit t) (here :
       ∙ ap (λ (i : ℕ). of_parts negative (take i (take n t)) (drop (suc i) (take n t))) (sym front)
       ∙ ap (λ (m : ℕ). unsigned_of negative (take m t)) length_is
 
-  -- what is wrong with the digits is wrong with the field
-  pub point_judged : (judgement : Judgement) → judgement ≡ without_value (of_parts false (take k t) (take j f))
-      → and_then {A = ℕ} judgement (Ok (k + 1 + j)) ≡ length_judged (unsigned_of false (take (field_length t) t)) (field_length t)
-  point_judged judgement e =
-      ap (λ (n : ℕ). and_then {A = ℕ} judgement (Ok n)) point_length
-      ∙ ap (λ (w : Judgement). and_then {A = ℕ} w (Ok (field_length t))) (e ∙ ap without_value (point_parts false))
-
 -- the number of both parts: a are the digits before the point, b goes on with those after it
 pub point_spelled : (t : List ℕ) (a : Digits) → a ≡ leading_digits 0 (10 ^ 15) t → (f : List ℕ) (b : Digits) → b ≡ leading_digits a.number (10 ^ 15) f
     → Spelled (take a.count t) (take b.count f) b.number
@@ -144,50 +134,3 @@ sign_decimal (b ∷ s) = go (is_sign b) (is_no_comma b) refl refl
     go true false e f = let k : true ≡ false = sym (no_comma is_sign refl b e) ∙ f in absurd (subst T k tt)
     go false true e f = rw (e, f)
     go false false e f = rw f (ap (λ (z : Bool). unsigned_of z []) (or_right (eqb b 43) (eqb b 45) e))
-
--- what is wrong behind the sign is wrong with the field
-module _ (l u : List ℕ) (behind : u ≡ after_sign l) where
-  abbrev unsigned : Judgement
-  unsigned = without_value (unsigned_of false (take (field_length u) u))
-
-  signed_is : unsigned ≡ without_value (decimal_of (take (field_length l) l))
-  signed_is =
-      ap (λ (t : List ℕ). without_value (unsigned_of false (take (field_length t) t))) behind
-      ∙ signless false (is_negative l) (take (field_length (after_sign l)) (after_sign l))
-      ∙ ap without_value (sign_decimal l)
-
-  length_is : length l - length u + field_length u ≡ field_length l
-  length_is = ap (λ (t : List ℕ). length l - length t + field_length t) behind ∙ sign_length l
-
-  pub sign_refused : (refusal : Refusal) → Err refusal ≡ length_judged (unsigned_of false (take (field_length u) u)) (field_length u)
-      → Err refusal ≡ length_judged (decimal_of (take (field_length l) l)) (field_length l)
-  sign_refused refusal e = go unsigned (field_length u) (field_length l) e ∙ ap (λ (w : Judgement). and_then {A = ℕ} w (Ok (field_length l))) signed_is
-    where
-      go : (w : Judgement) (m n : ℕ) → ◌≡◌ {A = Result ℕ Refusal} (Err refusal) (and_then w (Ok m)) → ◌≡◌ {A = Result ℕ Refusal} (Err refusal) (and_then w (Ok n))
-      go (Ok passed) m n p = cc
-      go (Err other) m n p = p
-
-  pub sign_passed : (n : ℕ) → Ok n ≡ length_judged (unsigned_of false (take (field_length u) u)) (field_length u)
-      → (length l - length u + n ≤ length l) × (Ok (length l - length u + n) ≡ length_judged (decimal_of (take (field_length l) l)) (field_length l))
-  sign_passed n e =
-      let found = go unsigned (field_length u) e in
-      let whole : length l - length u + n ≡ field_length l = ap (λ (k : ℕ). length l - length u + k) found.0 ∙ length_is in
-      (omega (arith, count_le is_no_comma l, whole), ap Ok whole ∙ ap (λ (w : Judgement). and_then {A = ℕ} w (Ok (field_length l))) (sym found.1 ∙ signed_is))
-    where
-      go : (w : Judgement) (m : ℕ) → ◌≡◌ {A = Result ℕ Refusal} (Ok n) (and_then w (Ok m)) → (n ≡ m) × (w ≡ Ok tt)
-      go (Ok passed) m p = (cc, refl)
-      go (Err other) m p = cc
-
--- ---- what the judge's answer says of the decimal, by what was read of it
-
-pub length_refused : (read : Decimal) (m : ℕ) (refusal : Refusal) → Err refusal ≡ length_judged read m → without_value read ≡ Err refusal
-length_refused (Ok x) m refusal e = cc
-length_refused (Err other) m refusal e = cc
-
-pub length_passed : (read : Decimal) (m n : ℕ) → Ok n ≡ length_judged read m → (n ≡ m) × (without_value read ≡ Ok tt)
-length_passed (Ok x) m n e = (cc, refl)
-length_passed (Err other) m n e = cc
-
-pub length_number : (read : Decimal) (m : ℕ) → number_in (length_judged read m) ≡ number_in read
-length_number (Ok x) m = refl
-length_number (Err refusal) m = refl

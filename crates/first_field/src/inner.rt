@@ -1,21 +1,24 @@
 // A decimal up to the comma: its digits are walked once, and where they end the field mostly ends too.
 ghost use Rattle.std.specs.Prelude.{◌≡◌, false, eqb, take, drop};
-ghost use Rattle.decimals.specs.Decimals.{decimal_of, unsigned_of};
-ghost use Rattle.first_field.specs.Front.{field_length, length_judged};
+ghost use Rattle.decimals.specs.Decimals.{decimal_of, unsigned_of, without_value};
+ghost use Rattle.first_field.specs.Front.{field_length};
 
-use crate::Read;
+use crate::{Judged, Read};
 use decimals::inner as behind_sign;
 use digits::inner as front;
-use refusals::Refusal;
 
-// How long the first field is, refused for what is wrong with the decimal in it.
-#[tactic(auto, using(crate::proofs::FirstField::sign_refused, crate::proofs::FirstField::sign_passed))]
-pub fn judge(line: &[u8]) -> Result<usize, Refusal>
-    ensures { result ≡ length_judged (decimal_of (take (field_length line.now) line.now)) (field_length line.now) }
+// What is wrong with the decimal in the first field.
+pub fn judge(line: &[u8]) -> Judged
+    ensures judged { result.judged ≡ without_value (decimal_of (take (field_length line.now) line.now)) }
+    ensures length { result.length ≡ field_length line.now }
 {
     let text = front::after_sign(line);
-    let length = judge_unsigned(text)?;
-    Ok(line.len() - text.len() + length)
+    let sign = line.len() - text.len();
+    let behind = judge_unsigned(text);
+    Judged {
+        judged: behind.judged,
+        length: sign + behind.length,
+    }
 }
 
 // The decimal in the first field.
@@ -32,8 +35,9 @@ pub fn decimal(line: &[u8]) -> Read
 }
 
 // The same behind a sign. What is not digits, a point and digits is judged when the comma is found.
-fn judge_unsigned(text: &[u8]) -> Result<usize, Refusal>
-    ensures { result ≡ length_judged (unsigned_of false (take (field_length text.now) text.now)) (field_length text.now) }
+fn judge_unsigned(text: &[u8]) -> Judged
+    ensures judged { result.judged ≡ without_value (unsigned_of false (take (field_length text.now) text.now)) }
+    ensures length { result.length ≡ field_length text.now }
 {
     let point = front::digit_count(text);
     if point < text.len() && text[point] == b'.' {
@@ -41,13 +45,17 @@ fn judge_unsigned(text: &[u8]) -> Result<usize, Refusal>
         let fraction = &text[from..];
         let decimals = front::digit_count(fraction);
         if is_end(fraction, decimals) {
-            behind_sign::judge_digits(&text[..point], &fraction[..decimals])?;
-            return Ok(from + decimals);
+            return Judged {
+                judged: behind_sign::judge_digits(&text[..point], &fraction[..decimals]),
+                length: from + decimals,
+            };
         }
     }
     let length = field_length(text);
-    behind_sign::judge_unsigned(&text[..length])?;
-    Ok(length)
+    Judged {
+        judged: behind_sign::judge_unsigned(&text[..length]),
+        length,
+    }
 }
 
 // The same behind a sign. What is not digits, a point and digits is read when the comma is found.

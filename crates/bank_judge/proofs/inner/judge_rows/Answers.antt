@@ -12,7 +12,7 @@ use Rattle.text.specs.Fields.{fields}
 use Rattle.blocks.proofs.Finding.{part_length}
 use Rattle.text.proofs.Walk.{line_stop, line_next, line_first}
 use Rattle.bank_judge.specs.Judge.{round_judged, at_row}
-use Rattle.bank_judge.proofs.Laws.{rows_refused, rows_next, rows_few}
+use Rattle.bank_judge.proofs.Laws.{rows_end, rows_go_on, rows_few}
 use Rattle.bank_judge.proofs.inner.judge_rows.Goals.{After-at_row}
 use Rattle.bank_judge.proofs.inner.judge_rows.Goals as goal
 
@@ -41,7 +41,7 @@ returns-in_err-at_row c =
     let here = (goal.at.returns-in_err-at_row c).After-at_row in
     let refused = c.in_err-at_row.field-0.0 in
     let given : c.from_residual.result ≡ Err refused = search rules in
-    given ∙ sym (l.invariant.1.1 ∙ rows_refused a.width a.skip a.depth a.room (lines l.rest.now) _ _ l.round c.at_row.result (first here) (said here) refused c.in_err-at_row.was)
+    given ∙ sym (l.invariant.1.1 ∙ rows_end a.width a.skip a.depth a.room (lines l.rest.now) _ _ l.round c.at_row.result (first here) (said here) refused c.in_err-at_row.was)
 
 pub loop-rest-smaller : goal.loop-rest-smaller
 loop-rest-smaller c =
@@ -57,6 +57,6 @@ loop-rest-preserved c =
       omega (arith, few),
       (
         omega (arith, part_length c.first_line-line.result.next l.rest.now),
-        l.invariant.1.1 ∙ rows_next a.width a.skip a.depth a.room (lines l.rest.now) _ _ l.round c.at_row.result (first here) (said here) _ c.in_ok-at_row.was,
+        l.invariant.1.1 ∙ rows_go_on a.width a.skip a.depth a.room (lines l.rest.now) _ _ l.round c.at_row.result (first here) (said here) _ c.in_ok-at_row.was,
       ),
     )

@@ -8,11 +8,10 @@ use lib.Seq.{length-take-le}
 use Rattle.laws.proofs.Lists.{part}
 use Rattle.digits.specs.Digits.{is_digit}
 use Rattle.first_field.specs.Front.{is_no_comma}
-use Rattle.std.proofs.Common.{rules, ◌≡◌, Ok, Err}
-use Rattle.decimals.specs.Decimals.{of_parts, without_value}
+use Rattle.decimals.specs.Decimals.{without_value}
 use Rattle.digits.proofs.Bytes.{count_le}
 use Rattle.decimals.proofs.Outcomes.{digits_before}
-use Rattle.first_field.proofs.FirstField.{point_judged}
+use Rattle.first_field.proofs.FirstField.{point_length, point_parts}
 use Rattle.first_field.proofs.inner.judge_unsigned.Goals as goal
 
 pub slice_bounds-judge_digits-end-then-is_end : goal.slice_bounds-judge_digits-end-then-is_end
@@ -34,27 +33,17 @@ overflow_add-result c =
     let f = take (length t - from) (drop from t) in
     omega (arith, count_le is_digit f, c.digit_count-decimals.ensures, ap length (part from t) ∙ length-drop from t)
 
-pub returns-in_err-judge_digits : goal.returns-in_err-judge_digits
-returns-in_err-judge_digits c =
-    let t = c.args.text.now in
+pub returns-then-is_end-clause-judged : goal.returns-then-is_end-clause-judged
+returns-then-is_end-clause-judged c = let t = c.args.text.now in
     let k = c.digit_count-point in
     let j = c.digit_count-decimals in
-    let f = take (length t - (k.result + 1)) (drop (k.result + 1) t) in
-    let ends = sym c.is_end.ensures ∙ c.if-is_end.true in
-    let refusal = c.in_err-judge_digits.field-0.0 in
-    let given : c.from_residual.result ≡ Err refusal = search rules in
-    let judged : Err refusal ≡ without_value (of_parts false (take k.result t) (take j.result f)) = search rules in
-    given ∙ point_judged t k.result k.ensures c.if-point-text.true c.if-text-point-eq46.true f (part (k.result + 1) t) j.result j.ensures ends (Err refusal) judged
+    let ends = sym c.is_end.ensures ∙ c.if-is_end.true in c.judge_digits.ensures ∙ ap without_value (point_parts t k.result k.ensures c.if-point-text.true c.if-text-point-eq46.true _ (part (k.result + 1) t) j.result j.ensures ends false)
 
-pub returns-then-is_end : goal.returns-then-is_end
-returns-then-is_end c =
-    let t = c.args.text.now in
+pub returns-then-is_end-clause-length : goal.returns-then-is_end-clause-length
+returns-then-is_end-clause-length c = let t = c.args.text.now in
     let k = c.digit_count-point in
     let j = c.digit_count-decimals in
-    let f = take (length t - (k.result + 1)) (drop (k.result + 1) t) in
-    let ends = sym c.is_end.ensures ∙ c.if-is_end.true in
-    let judged : Ok tt ≡ without_value (of_parts false (take k.result t) (take j.result f)) = search rules in
-    point_judged t k.result k.ensures c.if-point-text.true c.if-text-point-eq46.true f (part (k.result + 1) t) j.result j.ensures ends (Ok tt) judged
+    let ends = sym c.is_end.ensures ∙ c.if-is_end.true in point_length t k.result k.ensures c.if-point-text.true c.if-text-point-eq46.true _ (part (k.result + 1) t) j.result j.ensures ends
 
 pub slice_bounds-judge_unsigned-end : goal.slice_bounds-judge_unsigned-end
 slice_bounds-judge_unsigned-end c =
