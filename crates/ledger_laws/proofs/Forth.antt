@@ -4,7 +4,7 @@ use mathlib.Core.Bool.{Bool, true, false, cond}
 use mathlib.Core.List.{List, [], ◌∷◌}
 use mathlib.Core.Logic.{⊎_elim}
 use mathlib.Core.Option.{Option, none, some}
-use Prim.Native.Nat.{ℕ, suc, ◌+◌, ◌-◌, ◌≤◌, ◌<◌, min}
+use Prim.Native.Nat.{ℕ, zero, suc, ◌+◌, ◌-◌, ◌≤◌, ◌<◌, min}
 use native.Mathlib.Nat.{eq-or-lt_of_le}
 use native.Mathlib.Omega.{arith}
 use borrow.Author.Tests.{le-ltb, eqb-true, ne_eqb}
@@ -15,8 +15,9 @@ use Rattle.ledger_rows.specs.Map.{at, put_at, is_held, before}
 use Rattle.ledger_rows.specs.Table.{pad}
 use Rattle.ledger_rows.proofs.Tests.{by_test, not_both}
 use Rattle.ledger_rows.proofs.Tables.{length_pad, length_flat, pad_take}
-use Rattle.std.specs.Prelude.{Result, Ok, Err}
+use Rattle.std.specs.Prelude.{Result, Ok, Err, get_or}
 use Rattle.refusals.specs.declared.Refusal.{Refusal}
+use Rattle.refusals.specs.declared.Refusal.TheVariants.{NotAscii, EmptyText, WrongHeader, FieldCount, MalformedWhole, MalformedDecimal, LongDecimal, StepSeconds, NoDrafts, NoRows, Size, Setting, AbsentDraw, Draw, Input, ShortBuffer, WorkerRoom, SecondRoom, StepRoom, NoSaneRows, NoWithdrawal}
 use Rattle.refusals.specs.Refusals.{Judgement, and_then, number_of, number_in}
 use Rattle.refusals.proofs.First.{no_zero}
 use Rattle.ledger.specs.declared.answer.Decision.TheVariants.{Nothing, Put}
@@ -202,6 +203,38 @@ ruled (Err x) n ws after then e h = rw (← e, not_zero x)
 pub number_or_else : (x y : Judgement) → number_in (and_then x y) ≡ or_else (number_in x) (number_in y)
 number_or_else (Ok tt) y = refl
 number_or_else (Err x) y = rw (not_zero x)
+
+-- the answer that a number stands for, and it stands for no other
+abbrev pub answer_of : ℕ → Judgement
+answer_of zero = Ok tt
+answer_of (suc refused) = Err (get_or (NotAscii ∷ EmptyText ∷ WrongHeader ∷ FieldCount ∷ MalformedWhole ∷ MalformedDecimal ∷ LongDecimal ∷ StepSeconds ∷ NoDrafts ∷ NoRows ∷ Size ∷ Setting ∷ AbsentDraw ∷ Draw ∷ Input ∷ ShortBuffer ∷ WorkerRoom ∷ SecondRoom ∷ StepRoom ∷ NoSaneRows ∷ NoWithdrawal ∷ []) refused NotAscii)
+
+answer_is : (answer : Judgement) → answer_of (number_in answer) ≡ answer
+answer_is (Ok tt) = refl
+answer_is (Err NotAscii) = refl
+answer_is (Err EmptyText) = refl
+answer_is (Err WrongHeader) = refl
+answer_is (Err FieldCount) = refl
+answer_is (Err MalformedWhole) = refl
+answer_is (Err MalformedDecimal) = refl
+answer_is (Err LongDecimal) = refl
+answer_is (Err StepSeconds) = refl
+answer_is (Err NoDrafts) = refl
+answer_is (Err NoRows) = refl
+answer_is (Err Size) = refl
+answer_is (Err Setting) = refl
+answer_is (Err AbsentDraw) = refl
+answer_is (Err Draw) = refl
+answer_is (Err Input) = refl
+answer_is (Err ShortBuffer) = refl
+answer_is (Err WorkerRoom) = refl
+answer_is (Err SecondRoom) = refl
+answer_is (Err StepRoom) = refl
+answer_is (Err NoSaneRows) = refl
+answer_is (Err NoWithdrawal) = refl
+
+pub by_number : (answer : Judgement) (refused : ℕ) → number_in answer ≡ refused → answer ≡ answer_of refused
+by_number answer refused e = sym (answer_is answer) ∙ ap answer_of e
 
 pub plan_made : (p : Plan) (s : Standing) (rest : List ℕ) → Small p → Reached s
     → recorded (encode s rest) p Nothing ≡ (step_allowed (encode s rest) p.second, encode (step (plan p) s) rest)
