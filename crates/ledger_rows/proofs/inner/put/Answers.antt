@@ -1,12 +1,14 @@
-use Rattle.std.proofs.Common.{◌+◌, ◌-◌, length, refl, ◌∙◌, arith}
-use Rattle.std.proofs.lemmas.Slice.{put_mid-paste}
-use Rattle.std.proofs.lemmas.List.Edits.{paste_all}
-use Rattle.ledger_rows.specs.Words.{stored}
+-- `inner::put` meets its contract: each turn stores one value more. Assumes nothing.
+use native.Mathlib.Omega.{arith}
+use Rattle.ledger_rows.proofs.Shift.{paste_turn, stored_paste}
 use Rattle.ledger_rows.proofs.inner.put.Goals as goal
 
+pub loop-i-preserved : goal.loop-i-preserved
+loop-i-preserved c =
+    let a = c.args in
+    paste_turn a.words.now a.at a.values.now c.loop-i.i c.loop-i.words c.requires c.loop-i-test.true c.loop-i.invariant
+
 pub returns : goal.returns
-unfolding stored
 returns c =
     let a = c.args in
-    let n = length a.values.now in
-    put_mid-paste a.at (a.at + n - a.at) a.words.now _ a.values.now n c.copy_from_slice.ensures.after (omega arith) refl ∙ paste_all a.words.now a.at a.values.now n refl
+    stored_paste a.words.now a.at a.values.now c.loop-i.i c.loop-i.words (omega arith) c.loop-i-test.false c.loop-i.invariant
