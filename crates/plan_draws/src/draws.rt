@@ -14,7 +14,10 @@ fn put_front(drawn: &[u32], commits: &mut [u32])
     requires { length drawn.now ≤ length commits.old }
     ensures { commits.new ≡ drawn.now ++ drop (length drawn.now) commits.old }
 {
-    commits[..drawn.len()].copy_from_slice(drawn);
+    // copy_from_slice would need memmove of whoever links the library
+    for k in 0..drawn.len() {
+        commits[k] = drawn[k];
+    }
 }
 
 // As many sequences as `drawn` is long, by an acceptance model: drawn there first.
