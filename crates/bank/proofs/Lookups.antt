@@ -20,6 +20,14 @@ pub sizes_fit : (depth gamma : ℕ) → (depth ≡ 0 → ⊥) → depth ≤ 64 �
 unfolding sizes_judged
 sizes_fit depth gamma n h k = rw (lt-ltb 0 depth (above_zero depth n), le-leb depth 64 h, le-leb gamma 64 k)
 
+pub no_depth : (depth gamma : ℕ) → depth ≡ 0 → Err Size ≡ sizes_judged depth gamma
+unfolding sizes_judged
+no_depth depth gamma e = rw e
+
+pub deep : (depth gamma : ℕ) → 64 < depth → Err Size ≡ sizes_judged depth gamma
+unfolding sizes_judged
+deep depth gamma h = rw (lt-leb depth 64 h, and_false (ltb 0 depth))
+
 pub far : (depth gamma : ℕ) → 64 < gamma → Err Size ≡ sizes_judged depth gamma
 unfolding sizes_judged
 far depth gamma h = rw (lt-leb gamma 64 h, and_false (ltb 0 depth && leb depth 64))

@@ -21,30 +21,30 @@ use Rattle.table_line.specs.Line.{values_read, numbers_read, row_read, said, lin
 -- ---- the three numbers of a row
 
 module _ (batch tokens : ℕ) (seconds : Float) where
-  values_none : lt f0 seconds ≡ true → tokens ≡ 0 → values_read batch tokens seconds ≡ Err NoDrafts
+  pub values_none : lt f0 seconds ≡ true → tokens ≡ 0 → values_read batch tokens seconds ≡ Err NoDrafts
   unfolding values_read
   values_none e z = rw (e, eq-eqb tokens 0 z)
 
-  values_row : lt f0 seconds ≡ true → (tokens ≡ 0 → ⊥) → values_read batch tokens seconds ≡ Ok (record { depth = tokens - 1; batch = batch; seconds = seconds })
+  pub values_row : lt f0 seconds ≡ true → (tokens ≡ 0 → ⊥) → values_read batch tokens seconds ≡ Ok (record { depth = tokens - 1; batch = batch; seconds = seconds })
   unfolding values_read
   values_row e n = rw (e, ne_eqb tokens 0 n)
 
-  values_low : lt f0 seconds ≡ false → values_read batch tokens seconds ≡ Err StepSeconds
+  pub values_low : lt f0 seconds ≡ false → values_read batch tokens seconds ≡ Err StepSeconds
   unfolding values_read
   values_low e = rw e
 
 -- the numbers one by one, from the left
 module _ (a b : Whole) (t : Decimal) where
-  numbers_batch : (refusal : Refusal) → a ≡ Err refusal → numbers_read a b t ≡ Err refusal
+  pub numbers_batch : (refusal : Refusal) → a ≡ Err refusal → numbers_read a b t ≡ Err refusal
   unfolding numbers_read
   numbers_batch refusal e = ap (λ (u : Whole). numbers_read u b t) e
 
   module _ (batch : ℕ) (e : a ≡ Ok batch) where
-    numbers_tokens : (refusal : Refusal) → b ≡ Err refusal → numbers_read a b t ≡ Err refusal
+    pub numbers_tokens : (refusal : Refusal) → b ≡ Err refusal → numbers_read a b t ≡ Err refusal
     unfolding numbers_read
     numbers_tokens refusal f = ap (λ (u : Whole). numbers_read u b t) e ∙ ap (λ (u : Whole). numbers_read (Ok batch) u t) f
 
-    numbers_time : (tokens : ℕ) → b ≡ Ok tokens → (y : Decimal) → t ≡ y → numbers_read a b t ≡ numbers_read (Ok batch) (Ok tokens) y
+    pub numbers_time : (tokens : ℕ) → b ≡ Ok tokens → (y : Decimal) → t ≡ y → numbers_read a b t ≡ numbers_read (Ok batch) (Ok tokens) y
     numbers_time tokens f y g =
         ap (λ (u : Whole). numbers_read u b t) e
         ∙ ap (λ (u : Whole). numbers_read (Ok batch) u t) f
@@ -83,10 +83,10 @@ module _ (row : List (List ℕ)) where
 -- ---- a line
 
 module _ (line t : List ℕ) (e : t ≡ trimmed line) where
-  line_blank : length t ≡ 0 → line_read line ≡ Ok None
+  pub line_blank : length t ≡ 0 → line_read line ≡ Ok None
   unfolding line_read
   line_blank z = rw (eq-eqb (length (trimmed line)) 0 (sym (ap length e) ∙ z))
 
-  line_row : (length t ≡ 0 → ⊥) → line_read line ≡ said (row_read (fields line))
+  pub line_row : (length t ≡ 0 → ⊥) → line_read line ≡ said (row_read (fields line))
   unfolding line_read
   line_row n = rw (ne_eqb (length (trimmed line)) 0 (λ f. n (ap length e ∙ f)))
